@@ -1,9 +1,9 @@
--- Where reading a body of a stated length ends in a fault.
+-- When reading a body of a stated length ends in a fault.
 use Rattle.std.specs.Prelude.{ℕ, ◌<◌, List, length}
 use Rattle.lra_http.specs.declared.fault.Fault.{Fault}
 use Rattle.lra_http.specs.declared.fault.Fault.TheVariants.{Cut, ReadFault, WriteFault, HeadTooLong, BodyTooLong, BadHead, LengthNeeded, NotOffered, NoMemory}
 
--- the most bytes that the body of a message may have, but for a frame's
+-- the most bytes that the body of a message may have, unless it is a frame
 abbrev pub max_body_bytes : ℕ
 max_body_bytes = 65536
 

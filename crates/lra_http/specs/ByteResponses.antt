@@ -1,4 +1,4 @@
--- Responses whose body is a list of bytes, as all are that were read.
+-- Responses whose body is a list of bytes: every response that was read is one.
 use Rattle.std.specs.Prelude.{ℕ, List}
 use Rattle.lra_http.specs.declared.message.Response.{Response as WithBody}
 

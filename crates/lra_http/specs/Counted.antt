@@ -14,7 +14,7 @@ pub record Writer (W : Type 0) : Type 0 where
   pub flushed : List ℕ
   pub calls : Calls
 
--- no call was made so far
+-- no call has been made yet
 abbrev pub unread : {R : Type 0} → R → Reader R
 unread reader = record { inner = reader; given = []; ended = 0; calls = no_calls }
 

@@ -1,4 +1,4 @@
--- What the fields of a head say of the body.
+-- What the fields of a head say about the body.
 use Rattle.std.specs.Prelude.{◌≡◌, ℕ, ◌≤◌, List, [], ◌∷◌, length, map, Bool, true, false, ◌==◌, ◌&&◌, ◌||◌, nat_lt, not, if◌then◌else◌, codes, Option, Some, None, Result, Ok, Err}
 use Rattle.std.specs.List.{list_all}
 use Rattle.std.specs.Str.{bytes_eq}
@@ -10,21 +10,21 @@ use Rattle.lra_http.specs.declared.message.Field.{Field}
 use Rattle.lra_http.specs.declared.fields.Found.{Found}
 use Rattle.lra_http.specs.declared.fields.Found.TheVariants.{Absent, Sole, Several}
 
--- what the search for a field found, of all the values with its name
+-- what the search for a field found, given all values with the field's name
 abbrev pub IsFound : Found → List (List ℕ) → Type 0
 IsFound Absent found = found ≡ []
 IsFound (Sole text) found = found ≡ text.now ∷ []
 IsFound Several found = 2 ≤ length found
 
--- the name and the value that a field holds
+-- the name and the value of a field
 abbrev pub field_bytes : Field → List ℕ × List ℕ
 field_bytes field = (field.name, field.value)
 
--- the field has this name, in whichever case
+-- the field has this name, ignoring case
 abbrev pub is_named : List ℕ → List ℕ × List ℕ → Bool
 is_named name field = bytes_eq (map to_ascii_lowercase field.0) (map to_ascii_lowercase name)
 
--- the values of the fields with this name, in whichever case
+-- the values of the fields with this name, ignoring case
 abbrev pub values : List ℕ → List (List ℕ × List ℕ) → List (List ℕ)
 values name [] = []
 values name (field ∷ fields) =
@@ -35,7 +35,7 @@ abbrev pub first_value : List ℕ → List (List ℕ × List ℕ) → Option (Li
 first_value name [] = None
 first_value name (field ∷ fields) = if is_named name field then Some field.1 else first_value name fields
 
--- one digit or more and nothing else
+-- one or more digits and nothing else
 abbrev pub is_number : List ℕ → Bool
 is_number text = nat_lt 0 (length text) && list_all is_ascii_digit text
 
@@ -49,7 +49,7 @@ length_in limit text =
 abbrev pub is_bare : ℕ → Bool
 is_bare code = code == 204 || code == 304
 
--- no body, whatever its length, where it is bare
+-- no body, whatever length is stated, if the code is bare
 abbrev pub without_body : Bool → Result ℕ Fault → Result ℕ Fault
 without_body true (Ok size) = Ok 0
 without_body true (Err fault) = Err fault
@@ -61,14 +61,15 @@ stated_length limit bare [] = if bare then Ok 0 else Err LengthNeeded
 stated_length limit bare (text ∷ []) = without_body bare (length_in limit text)
 stated_length limit bare (_ ∷ _ ∷ _) = Err BadHead
 
--- the length of the body behind a final head, or its first fault: a code below 100 is no status (RFC 9110, section 15)
+-- the length of the body behind a final head, or the first fault of the head: a code below 100 is
+-- no status (RFC 9110, section 15)
 abbrev pub response_length : ℕ → ℕ → List (List ℕ × List ℕ) → Result ℕ Fault
 response_length limit code fields =
     if nat_lt code 100 then Err BadHead
     else if nat_lt 0 (length (values (codes "transfer-encoding") fields)) then Err NotOffered
     else stated_length limit (is_bare code) (values (codes "content-length") fields)
 
--- the length that the Content-Length fields of a request state: 0 where there is none
+-- the length that the Content-Length fields of a request state: 0 if there is none
 abbrev pub asked_length : ℕ → List (List ℕ) → Result ℕ Fault
 asked_length limit [] = Ok 0
 asked_length limit (text ∷ []) = length_in limit text

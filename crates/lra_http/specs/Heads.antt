@@ -20,7 +20,7 @@ max_head_bytes = 16384
 abbrev pub max_head_lines : ℕ
 max_head_lines = 64
 
--- the text is a head of this kind, with so many field lines
+-- the text is a head of this kind with this many field lines
 abbrev pub IsHead : HeadKind → List ℕ → ℕ → Type 0
 IsHead Request text lines = (h : RequestHead) × IsRequestHead h × (text ≡ print_request h) × (lines ≡ length h.fields)
 IsHead Response text lines = (h : ResponseHead) × IsResponseHead h × (text ≡ print_response h) × (lines ≡ length h.fields)
@@ -30,32 +30,33 @@ abbrev pub HasNoHead : HeadKind → List ℕ → Type 0
 HasNoHead Request bytes = HasNoRequest bytes
 HasNoHead Response bytes = HasNoResponse bytes
 
--- no prefix of the bytes is a head, save all of them
+-- no prefix of the bytes is a head, except all of them
 abbrev pub HasNoShorterHead : HeadKind → List ℕ → Type 0
 HasNoShorterHead kind bytes =
     (text rest : List ℕ) (lines : ℕ) → IsHead kind text lines → bytes ≡ text ++ rest → rest ≡ []
 
--- no bytes can follow that make a prefix a head
+-- whatever bytes follow, no prefix is a head
 abbrev pub NeverHasHead : HeadKind → List ℕ → Type 0
 NeverHasHead Request bytes = NeverHasRequest bytes
 NeverHasHead Response bytes = NeverHasResponse bytes
 
--- some bytes can follow that make these a head (or they end in a request's target, whose text is tested at its end)
+-- some bytes can follow that complete these to a head (or the bytes end in a request's target,
+-- whose text is tested at its end)
 abbrev pub MayBecomeHead : HeadKind → List ℕ → Type 0
 MayBecomeHead Request bytes = MayBecomeRequest bytes
 MayBecomeHead Response bytes = MayBecomeResponse bytes
 
--- more than so many field lines have come
+-- more than this many field lines have come
 abbrev pub Exceeds : HeadKind → ℕ → List ℕ → Type 0
 Exceeds Request room bytes = RequestExceeds room bytes
 Exceeds Response room bytes = ResponseExceeds room bytes
 
--- each head that the bytes begin has more than so many field lines
+-- each head that the bytes begin has more than this many field lines
 abbrev pub Overflows : HeadKind → ℕ → List ℕ → Type 0
 Overflows Request room bytes = RequestOverflows room bytes
 Overflows Response room bytes = ResponseOverflows room bytes
 
--- a prefix of the bytes is a head with at most so many field lines
+-- a prefix of the bytes is a head with at most this many field lines
 abbrev pub HasHead : HeadKind → ℕ → List ℕ → Type 0
 HasHead kind room bytes =
     (text rest : List ℕ) × (lines : ℕ) × IsHead kind text lines × (bytes ≡ text ++ rest) × (lines ≤ room)
@@ -65,7 +66,7 @@ abbrev pub HasNoHeadWithin : HeadKind → ℕ → ℕ → List ℕ → Type 0
 HasNoHeadWithin kind most room bytes =
     (text rest : List ℕ) (lines : ℕ) → IsHead kind text lines → bytes ≡ text ++ rest → length text ≤ most → ¬ (lines ≤ room)
 
--- a prefix of the bytes is a head, or they may become one
+-- a prefix of the bytes is a head, or the bytes may become one
 abbrev pub IsOpen : HeadKind → List ℕ → Type 0
 IsOpen kind bytes =
     MayBecomeHead kind bytes ⊎ ((text rest : List ℕ) × (lines : ℕ) × IsHead kind text lines × (bytes ≡ text ++ rest))
@@ -78,7 +79,7 @@ IsHeadState kind most room bytes Bad = NeverHasHead kind bytes
 IsHeadState kind most room bytes Long =
     ((most < length bytes) × IsOpen kind bytes) ⊎ (Exceeds kind room bytes × Overflows kind room bytes)
 
--- the last line is empty, and another stands before it
+-- the last line is empty, and another line stands before it
 abbrev pub ends_empty : List ℕ → Bool
 ends_empty bytes =
     ends_with eqb bytes (line_feed ∷ line_feed ∷ []) || ends_with eqb bytes (line_feed ∷ carriage_return ∷ line_feed ∷ [])
@@ -86,12 +87,13 @@ ends_empty bytes =
 abbrev pub is_space : ℕ → Bool
 is_space byte = byte == space
 
--- bytes about which the parser isn't asked don't end in an empty line where they have a space, and are within the limit
+-- if the parser isn't asked about the bytes, they are within the limit and, if they have a space,
+-- don't end in an empty line
 abbrev pub MayLack : Bool → List ℕ → ℕ → Bool → Type 0
 MayLack spaced bytes most true = Unit {0}
 MayLack spaced bytes most false = (IsTrue spaced → ends_empty bytes ≡ false) × (length bytes ≤ most)
 
--- at most so many bytes were given, and nothing behind a line feed
+-- at most `most` bytes were given, and nothing behind a line feed
 pub record IsPart (most : ℕ) (old new : GivenBytes) (part : List ℕ) : Type 0 where
   pub gives : Gives old new part
   pub line : StopsAt part line_feed
@@ -116,7 +118,8 @@ pub record IsHeadWithin (kind : HeadKind) (most room : ℕ) (bytes : List ℕ) :
   pub short : length bytes ≤ most
   pub few : lines ≤ room
 
--- a prefix of the input, at most one byte longer than a head may be, that no bytes can make a head
+-- a prefix of the input, at most one byte longer than a head may be, that no further bytes can make
+-- a head
 pub record IsNoHead (kind : HeadKind) (most : ℕ) (input : List ℕ) : Type 0 where
   pub prefix : List ℕ
   pub rest : List ℕ
@@ -124,7 +127,7 @@ pub record IsNoHead (kind : HeadKind) (most : ℕ) (input : List ℕ) : Type 0 w
   pub short : length prefix ≤ most + 1
   pub never : NeverHasHead kind prefix
 
--- the input goes on for one byte more than a head may have, and so far could be a head
+-- the input has at least one byte more than a head may have, and up to there it could be a head
 pub record IsLong (kind : HeadKind) (most : ℕ) (input : List ℕ) : Type 0 where
   pub prefix : List ℕ
   pub rest : List ℕ
@@ -132,12 +135,12 @@ pub record IsLong (kind : HeadKind) (most : ℕ) (input : List ℕ) : Type 0 whe
   pub long : length prefix ≡ most + 1
   pub may : MayBecomeHead kind prefix
 
--- no head within the limits, and more bytes or field lines than they allow
+-- no head within the limits, and more bytes or field lines than the limits allow
 abbrev pub IsHeadTooLong : HeadKind → ℕ → ℕ → List ℕ → Type 0
 IsHeadTooLong kind most room input =
     (IsLong kind most input ⊎ Exceeds kind room input) × HasNoHeadWithin kind most room input
 
--- where each fault of a head comes
+-- when each fault of a head comes
 abbrev pub RefusesHead : HeadKind → ℕ → ℕ → List ℕ → Fault → Type 0
 RefusesHead kind most room input Cut = HasNoHead kind input × MayBecomeHead kind input × (length input ≤ most)
 RefusesHead kind most room input BadHead = IsNoHead kind most input

@@ -1,4 +1,4 @@
--- A list of bytes by its last one and what was before it.
+-- A list of bytes, defined by its last byte and what was before it.
 use Rattle.std.specs.Prelude.{ℕ, List, [], ◌∷◌, ◌++◌, Option, None, Some}
 use Rattle.std.specs.declared.snapshot.Snapshot.{Snapshot}
 

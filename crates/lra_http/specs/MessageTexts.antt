@@ -17,7 +17,7 @@ abbrev pub field_lines : List Field → List ℕ
 field_lines [] = []
 field_lines (f ∷ fs) = field_line f ++ field_lines fs
 
--- the phrase that http gives to a code, empty where it has none
+-- the phrase that http gives to a code, empty if it has none
 unfoldable pub phrase : ℕ → List ℕ
 phrase code = unwrap_or (reason_phrase code) []
 
@@ -31,7 +31,7 @@ response_head r = status_line r.status ++ (field_lines r.fields ++ line_end)
 abbrev pub response_text : Response → List ℕ
 response_text r = response_head r ++ r.body
 
--- the text of a response whose body has its bytes so
+-- the text of a response, given the bytes of its body
 abbrev pub text_with : {B : Type 0} → (B → List ℕ) → WithBody B → List ℕ
 text_with bytes r = response_head r ++ bytes r.body
 

@@ -11,7 +11,7 @@ use Rattle.lra_http.specs.declared.message.Request.{Request as Question}
 use Rattle.lra_http.specs.Heads.{RefusesHead, max_head_bytes, max_head_lines}
 use Rattle.lra_http.specs.HeadFields.{field_bytes, request_length}
 
--- what the fields of a head state
+-- the length that the fields of a head state, or their fault
 abbrev pub stated : ℕ → RequestHead → Result ℕ Fault
 stated limit h = request_length limit h.minor (map name_and_value h.fields)
 
@@ -38,7 +38,7 @@ abbrev pub IsCutInBody : ℕ → List ℕ → Type 0
 IsCutInBody limit input =
     (h : RequestHead) × (rest : List ℕ) × (size : ℕ) × HasHead input h rest × (stated limit h ≡ Ok size) × (length rest < size)
 
--- where each fault comes
+-- when each fault comes
 abbrev pub RefusesRequest : ℕ → List ℕ → Fault → Type 0
 RefusesRequest limit input Cut = HasNoRequest limit input × (RefusesHead Request max_head_bytes max_head_lines input Cut ⊎ IsCutInBody limit input)
 RefusesRequest limit input BadHead = RefusesHead Request max_head_bytes max_head_lines input BadHead ⊎ HasFault limit input BadHead
@@ -50,11 +50,11 @@ RefusesRequest limit input WriteFault = ⊥
 RefusesRequest limit input ReadFault = Unit {0}
 RefusesRequest limit input NoMemory = Unit {0}
 
--- what came of a target so far can still be a text
+-- what has come of a target so far can still be a text
 abbrev pub IsTextSoFar : List ℕ → Type 0
 IsTextSoFar input = (prefix rest : List ℕ) → input ≡ prefix ++ rest → EndsInTarget prefix → ¬ (NeverHasRequest prefix)
 
--- the bytes are this whole request, and no byte more
+-- the bytes are exactly this whole request
 pub record IsRequestMessage (limit : ℕ) (bytes : List ℕ) (question : Question) : Type 0 where
   pub head : RequestHead
   pub whole : IsRequest limit bytes head question.body []
@@ -66,7 +66,8 @@ pub record IsRequestMessage (limit : ℕ) (bytes : List ℕ) (question : Questio
 abbrev pub IsFaultyHead : ℕ → List ℕ → Fault → Type 0
 IsFaultyHead limit bytes fault = (h : RequestHead) × HasHead bytes h [] × (stated limit h ≡ Err fault)
 
--- what was given before each fault: of the head at most a byte more than it may have, and none of a body that isn't wanted
+-- what was given before each fault: of the head at most one byte more than it may have, and nothing
+-- of a body that isn't wanted
 abbrev pub Spends : ℕ → List ℕ → Fault → Type 0
 Spends limit bytes BadHead = length bytes ≤ max_head_bytes + 1
 Spends limit bytes HeadTooLong = length bytes ≤ max_head_bytes + 1
@@ -78,7 +79,7 @@ Spends limit bytes NoMemory = length bytes ≤ max_head_bytes + 1 + limit
 Spends limit bytes LengthNeeded = ⊥
 Spends limit bytes WriteFault = ⊥
 
--- the bytes show the fault, whatever follows them, and are no more than it takes; behind a cut nothing follows
+-- the bytes show the fault, whatever follows, and are no more than it takes; nothing follows a cut
 pub record ShowsNoRequest (limit : ℕ) (bytes : List ℕ) (fault : Fault) : Type 0 where
   pub shown : (more : List ℕ) → (fault ≡ Cut → more ≡ []) → RefusesRequest limit (bytes ++ more) fault
   pub spent : Spends limit bytes fault

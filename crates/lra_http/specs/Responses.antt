@@ -16,25 +16,25 @@ pub record Room : Type 0 where
   pub bytes : ℕ
   pub lines : ℕ
 
--- those of all heads of a message
+-- the room for all heads of a message
 abbrev pub head_room : Room
 head_room = record { bytes = max_head_bytes; lines = max_head_lines }
 
--- an interim head is skipped, save the one that switches protocols
+-- an interim head is skipped, except the one that switches protocols
 abbrev pub is_interim : ℕ → Bool
 is_interim code = nat_le 100 code && nat_lt code 200
 
 abbrev pub is_switch : ℕ → Bool
 is_switch code = code == 101
 
--- these interim heads stand at the start, and rest follows
+-- these interim heads stand at the start, and `rest` follows
 abbrev pub Skips : List ResponseHead → List ℕ → List ℕ → Type 0
 Skips [] input rest = input ≡ rest
 Skips (h ∷ heads) input rest =
     (middle : List ℕ) × ReadsResponse input h middle × IsTrue (is_interim (status_code h))
     × IsFalse (is_switch (status_code h)) × Skips heads middle rest
 
--- the bytes and the field lines of some heads
+-- how many bytes, and how many field lines, some heads have
 abbrev pub bytes_of : List ResponseHead → ℕ
 bytes_of [] = 0
 bytes_of (h ∷ heads) = length (print_response h) + bytes_of heads
@@ -43,7 +43,7 @@ abbrev pub lines_of : List ResponseHead → ℕ
 lines_of [] = 0
 lines_of (h ∷ heads) = length h.fields + lines_of heads
 
--- behind some interim heads P holds, of the room that they leave and of the bytes that follow
+-- behind some interim heads, P holds of the room that they leave and of the bytes that follow
 pub record Behind (room : Room) (P : Room → List ℕ → Type 0) (input : List ℕ) : Type 0 where
   pub skipped : List ResponseHead
   pub middle : List ℕ
@@ -53,7 +53,7 @@ pub record Behind (room : Room) (P : Room → List ℕ → Type 0) (input : List
   pub lines : lines_of skipped + left.lines ≡ room.lines
   pub holds : P left middle
 
--- the bytes begin with this head, which the room allows
+-- the bytes begin with this head, which fits in the room
 pub record Begins (h : ResponseHead) (rest : List ℕ) (room : Room) (bytes : List ℕ) : Type 0 where
   pub reads : ReadsResponse bytes h rest
   pub short : length (print_response h) ≤ room.bytes
@@ -67,7 +67,7 @@ HasFinal room input h rest = Behind room (Begins h rest) input × IsFalse (is_in
 abbrev pub stated : ℕ → ResponseHead → Result ℕ Fault
 stated limit h = response_length limit (status_code h) (map name_and_value h.fields)
 
--- the input is a whole response and then rest
+-- the input is a whole response and then `rest`
 abbrev pub IsResponse : Room → ℕ → List ℕ → ResponseHead → List ℕ → List ℕ → Type 0
 IsResponse room limit input h body rest =
     HasFinal room input h (body ++ rest) × (stated limit h ≡ Ok (length body))
@@ -83,11 +83,12 @@ abbrev pub HasNoResponse : Room → ℕ → List ℕ → Type 0
 HasNoResponse room limit input =
     (h : ResponseHead) (body rest : List ℕ) → ¬ (IsResponse room limit input h body rest)
 
--- no head stands there, some bytes can follow that make the bytes one, and the room allows those that are there
+-- no head stands there yet, some bytes can follow that complete one, and the room allows the bytes
+-- so far
 abbrev pub IsUnfinished : Room → List ℕ → Type 0
 IsUnfinished room bytes = HasNoHead Response bytes × MayBecomeResponse bytes × (length bytes ≤ room.bytes)
 
--- no bytes can follow that make the bytes, or a prefix of them, a head
+-- whatever bytes follow, neither the bytes nor a prefix of them becomes a head
 abbrev pub IsHopeless : Room → List ℕ → Type 0
 IsHopeless room bytes = IsNoHead Response room.bytes bytes
 
@@ -104,7 +105,7 @@ IsCrowded room bytes = Exceeds Response room.lines bytes
 abbrev pub IsOver : Room → List ℕ → Type 0
 IsOver room bytes = IsLong Response room.bytes bytes ⊎ IsCrowded room bytes
 
--- where each fault of the heads comes
+-- when each fault of the heads comes
 abbrev pub RefusesHeads : Room → List ℕ → Fault → Type 0
 RefusesHeads room input Cut = HasNoFinal room input × Behind room IsUnfinished input
 RefusesHeads room input BadHead = Behind room IsHopeless input ⊎ Behind room IsSwitched input
@@ -127,7 +128,7 @@ IsCutInBody room limit input =
     (h : ResponseHead) × (rest : List ℕ) × (size : ℕ)
     × HasFinal room input h rest × (stated limit h ≡ Ok size) × (length rest < size)
 
--- where each fault comes
+-- when each fault comes
 abbrev pub RefusesResponse : Room → ℕ → List ℕ → Fault → Type 0
 RefusesResponse room limit input Cut =
     HasNoResponse room limit input × (Behind room IsUnfinished input ⊎ IsCutInBody room limit input)
@@ -140,18 +141,19 @@ RefusesResponse room limit input WriteFault = ⊥
 RefusesResponse room limit input ReadFault = Unit {0}
 RefusesResponse room limit input NoMemory = Unit {0}
 
--- the bytes are this whole response, and no byte more
+-- the bytes are exactly this whole response
 pub record IsResponseMessage (limit : ℕ) (bytes : List ℕ) (answer : Answer) : Type 0 where
   pub head : ResponseHead
   pub whole : IsResponse head_room limit bytes head answer.body []
   pub status : answer.status ≡ status_code head
   pub fields : map field_bytes answer.fields ≡ map name_and_value head.fields
 
--- the bytes are skipped heads and a final one, whose fields have this fault
+-- the bytes are skipped heads and a final head whose fields have this fault
 abbrev pub IsFaultyHead : ℕ → List ℕ → Fault → Type 0
 IsFaultyHead limit bytes fault = (h : ResponseHead) × HasFinal head_room bytes h [] × (stated limit h ≡ Err fault)
 
--- what was given before each fault: of the heads at most a byte more than they may have, and none of a body that isn't wanted
+-- what was given before each fault: of the heads at most one byte more than they may have, and
+-- nothing of a body that isn't wanted
 abbrev pub Spends : ℕ → List ℕ → Fault → Type 0
 Spends limit bytes BadHead = length bytes ≤ max_head_bytes + 1
 Spends limit bytes HeadTooLong = length bytes ≤ max_head_bytes + 1
@@ -163,7 +165,7 @@ Spends limit bytes ReadFault = length bytes ≤ max_head_bytes + 1 + limit
 Spends limit bytes NoMemory = length bytes ≤ max_head_bytes + 1 + limit
 Spends limit bytes WriteFault = ⊥
 
--- the bytes show the fault, whatever follows them, and are no more than it takes; behind a cut nothing follows
+-- the bytes show the fault, whatever follows, and are no more than it takes; nothing follows a cut
 pub record ShowsNoResponse (limit : ℕ) (bytes : List ℕ) (fault : Fault) : Type 0 where
   pub shown : (more : List ℕ) → (fault ≡ Cut → more ≡ []) → RefusesResponse head_room limit (bytes ++ more) fault
   pub spent : Spends limit bytes fault
@@ -178,7 +180,7 @@ pub record ArePartsOfResponse (bytes : List ℕ) (headers : List HeaderSpan) (sp
   pub whole : bytes ≡ print_response head
   pub count : spans.headers ≡ length head.fields
 
--- what was given is skipped heads and then the final one, which is these bytes
+-- what was given is skipped heads and then the final head, which is these bytes
 pub record IsFinalRead (given bytes : List ℕ) : Type 0 where
   pub head : ResponseHead
   pub valid : IsResponseHead head
@@ -187,7 +189,8 @@ pub record IsFinalRead (given bytes : List ℕ) : Type 0 where
   pub first : (rest : List ℕ) → HasFinal head_room (given ++ rest) head rest
   pub short : length given ≤ max_head_bytes
 
--- the bytes are skipped heads and then a final one, of this code, which states a body of so many bytes
+-- the bytes are skipped heads and then a final head with this code, which states a body of this
+-- size
 pub record IsHeadRead (limit : ℕ) (given : List ℕ) (code size : ℕ) : Type 0 where
   pub head : ResponseHead
   pub first : (rest : List ℕ) → HasFinal head_room (given ++ rest) head rest
@@ -195,8 +198,8 @@ pub record IsHeadRead (limit : ℕ) (given : List ℕ) (code size : ℕ) : Type 
   pub status : code ≡ status_code head
   pub short : length given ≤ max_head_bytes
 
--- the bytes, none of which stands behind a final head, show why no final head that states a body stands there; where they ended or
--- a read failed, no final head had come
+-- the bytes, none of which is behind a final head, show why no final head that states a body stands
+-- there; if they ended or a read failed, no final head had come
 pub record ShowsNoHead (limit : ℕ) (bytes : List ℕ) (fault : Fault) : Type 0 where
   pub shows : ShowsNoResponse limit bytes fault
   pub short : length bytes ≤ max_head_bytes + 1

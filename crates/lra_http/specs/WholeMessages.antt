@@ -1,4 +1,4 @@
--- Messages whose text is a whole message again.
+-- Messages whose text reads back as a whole message.
 use Rattle.std.specs.Prelude.{◌≡◌, ℕ, ◌<◌, ◌≤◌, List, ◌∷◌, length, map, All, IsUtf8, codes, Ok}
 use Rattle.httparse.specs.Grammar.{IsToken, AllPass, is_value_byte, is_uri_byte, trim_ows}
 use Rattle.lra_http.specs.declared.message.CallRequest.{CallRequest}
@@ -8,13 +8,15 @@ use Rattle.lra_http.specs.HeadFields.{field_bytes, request_length, response_leng
 use Rattle.lra_http.specs.Heads.{max_head_bytes, max_head_lines}
 use Rattle.lra_http.specs.MessageTexts.{request_head, response_head}
 
--- the name is a token, and the value has no control byte but the tab, and no white space at its ends (RFC 9110, section 5.5)
+-- the name is a token, and the value has no control byte but the tab, and no white space at its
+-- ends (RFC 9110, section 5.5)
 pub record IsPlain (f : Field) : Type 0 where
   pub name : IsToken f.name
   pub value : AllPass is_value_byte f.value
   pub trimmed : trim_ows f.value ≡ f.value
 
--- a final status, plain fields within the limits, and among them the length of the body or that there is none
+-- a final status, plain fields within the limits, and among them the length of the body or a field
+-- that says there is none
 pub record IsSound (limit : ℕ) (r : Response) : Type 0 where
   pub final : 200 ≤ r.status
   pub status : r.status < 1000
@@ -27,7 +29,7 @@ pub record IsSound (limit : ℕ) (r : Response) : Type 0 where
 abbrev pub host_field : List ℕ → Field
 host_field host = record { name = codes "Host"; value = host }
 
--- the same of a request, whose host is one of its fields
+-- the same for a request, whose host is one of its fields
 pub record IsSoundCall (limit : ℕ) (r : CallRequest) : Type 0 where
   pub method : IsToken r.method
   pub target : (0 < length r.target) × AllPass is_uri_byte r.target

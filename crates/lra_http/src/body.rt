@@ -1,4 +1,4 @@
-// The body of a message, read in pieces.
+// Reads the body of a message in pieces.
 ghost use Rattle.std.specs.Prelude.{◌≡◌, ℕ, ◌+◌, ◌<◌, ◌≤◌, List, ◌++◌, length, IfOk, IfErr, OnOk};
 ghost use Rattle.lra_http.specs.Streams.{CallGives, Gives, Reads, Streams, too_many_interrupted};
 ghost use Rattle.lra_http.specs.Bodies.{RefusesBody};
@@ -7,10 +7,10 @@ ghost use Rattle.lra_http.specs.Faults.{Shows, Stops};
 use crate::{CallError, Fault, Source, TOO_MANY_INTERRUPTED};
 use std::alloc::Global;
 
-/// The most bytes of a body, where the caller has no other limit.
+/// The most bytes of a body, unless the caller sets another limit.
 pub const MAX_BODY_BYTES: usize = 65_536;
 
-/// Reads at most as many bytes as fit, and none only at the end or where none fits. `interrupted`
+/// Reads at most as many bytes as fit, and 0 only at the end or if there is no room. `interrupted`
 /// counts the interrupted calls of the message.
 pub fn read_piece<S: Source>(
     source: &mut S,
@@ -35,7 +35,7 @@ pub fn read_piece<S: Source>(
     Err(crate::ReadFault)
 }
 
-/// Takes at most `most` of the next bytes, one at least, to the end of `body`.
+/// Appends the next bytes to `body`: at least one, at most `most`.
 fn take_piece<S: Source>(
     source: &mut S,
     body: &mut Vec<u8>,
@@ -64,7 +64,7 @@ fn take_piece<S: Source>(
     Ok(())
 }
 
-/// The body of this length.
+/// Reads a body of this length.
 pub fn read_body<S: Source>(
     alloc: Global,
     source: &mut S,

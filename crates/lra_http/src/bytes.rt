@@ -1,4 +1,4 @@
-// Bytes over any source and sink, with the bound on interrupted calls.
+// Reads and writes bytes over any source and sink, within the bound on interrupted calls.
 ghost use Rattle.std.specs.Prelude.{◌≡◌, ◌+◌, ◌<◌, ◌≤◌, [], ◌∷◌, length, take, IfOk, IfSome, IfNone, OnOk, OnErr};
 ghost use Rattle.std.specs.Io.{StopsAt};
 ghost use Rattle.httparse.specs.Ascii.{line_feed};
@@ -6,21 +6,21 @@ ghost use Rattle.lra_http.specs.Streams.{CallGives, FoundEnd, Gives, IsFlushed, 
 
 use crate::{CallError, Sink, Source};
 
-/// A read failed, or 1,024 were interrupted.
+/// A read failed, or 1,024 reads were interrupted.
 #[derive(Clone, Copy, Debug, PartialEq, Eq)]
 pub struct ReadFault;
 
-/// A write failed, or 1,024 were interrupted.
+/// A write failed, or 1,024 writes were interrupted.
 #[derive(Clone, Copy, Debug, PartialEq, Eq)]
 pub struct WriteFault;
 
-/// So many interrupted calls in one message are a fault: a message of 1,023 is still read or
+/// This many interrupted calls in one message are a fault. A message with 1,023 is still read or
 /// written.
 pub const TOO_MANY_INTERRUPTED: u16 = 1024;
 
-/// Writes all of the bytes, or a prefix of them before a fault. `interrupted` counts the
-/// interrupted calls of the message that the bytes belong to, and is handed on from one piece of it
-/// to the next.
+/// Writes all of the bytes, or only a prefix of them if there is a fault. `interrupted` counts the
+/// interrupted calls of the message that the bytes belong to, and is passed from one piece of the
+/// message to the next.
 pub fn write_all<W: Sink>(
     sink: &mut W,
     bytes: &[u8],
@@ -71,9 +71,9 @@ pub fn flush<W: Sink>(sink: &mut W, interrupted: &mut u16) -> Result<(), WriteFa
     Err(WriteFault)
 }
 
-/// The next byte, or `None` at the end. It reads no byte more. `interrupted` counts the interrupted
-/// calls of the message that the byte belongs to, and is handed on from one byte of it to the next.
-/// A fault leaves the bytes as they were.
+/// Returns the next byte, or `None` at the end. It reads no byte beyond that. `interrupted` counts
+/// the interrupted calls of the message that the byte belongs to, and is passed from one byte of
+/// the message to the next. A fault consumes no byte.
 pub fn read_byte<R: Source>(source: &mut R, interrupted: &mut u16) -> Result<Option<u8>, ReadFault>
     requires { interrupted.old < too_many_interrupted }
     ensures some { IfOk result
@@ -99,9 +99,9 @@ pub fn read_byte<R: Source>(source: &mut R, interrupted: &mut u16) -> Result<Opt
     Err(ReadFault)
 }
 
-/// Reads some of the next bytes, at most as many as fit and none behind a line feed; none only at
-/// the end or where none fits. `interrupted` counts the interrupted calls of the message that the
-/// bytes belong to. A fault leaves the bytes as they were.
+/// Reads some of the next bytes: at most as many as fit, nothing behind a line feed, and 0 only at
+/// the end or if there is no room. `interrupted` counts the interrupted calls of the message that
+/// the bytes belong to. A fault consumes no byte.
 pub fn read_in_line<R: Source>(
     source: &mut R,
     buffer: &mut [u8],

@@ -1,11 +1,11 @@
-// A count that clauses alone read.
+// A count that only clauses read.
 ghost use Rattle.std.specs.Prelude.{◌≡◌, ◌+◌};
 
 use std::marker::Model;
 use std::snapshot::Snapshot;
 
-/// A count with no last value. It holds no number and takes one byte, however far it counts: only
-/// clauses read it.
+/// A count without a greatest value. It holds no number and takes one byte, however far it counts,
+/// because only clauses read it.
 #[derive(Drop)]
 pub struct Count {
     before: Option<Snapshot<Count>>,
@@ -30,14 +30,14 @@ impl Model for Count {
 }
 
 impl Count {
-    /// Nothing was counted.
+    /// Returns a count of zero.
     pub fn zero() -> Count
         ensures { result ≡ 0 }
     {
         Count { before: None }
     }
 
-    /// One more.
+    /// Returns the count plus one.
     pub fn next(&self) -> Count
         ensures { result ≡ self.now + 1 }
     {

@@ -1,4 +1,4 @@
-// Why a message was not read or written.
+// Why a message was not read or not written.
 ghost use Rattle.std.specs.Prelude.{◌≡◌, Some};
 ghost use Rattle.lra_http.specs.Faults.{fault_name};
 ghost use Rattle.lra_http.specs.declared.fault.Fault.TheVariants.{NoMemory, ReadFault, WriteFault};
@@ -6,32 +6,31 @@ ghost use Rattle.lra_http.specs.declared.fault.Fault.TheVariants.{NoMemory, Read
 use std::alloc::{AllocError, AllocFailed};
 use std::fmt;
 
-/// Why a message was not read or written.
+/// Why a message was not read or not written.
 #[derive(Clone, Copy, Debug, PartialEq, Eq)]
 pub enum Fault {
     /// The input ended before the message did.
     Cut,
-    /// A read failed, or 1,024 were interrupted.
+    /// A read failed, or 1,024 reads were interrupted.
     ReadFault,
-    /// A write failed, or 1,024 were interrupted.
+    /// A write failed, or 1,024 writes were interrupted.
     WriteFault,
-    /// The head, or all heads of a response together, have more than 16,384 bytes or 64 field
-    /// lines.
+    /// The head, or all heads of a response together, has more than 16,384 bytes or 64 field lines.
     HeadTooLong,
     /// The stated length of the body is over the limit.
     BodyTooLong,
-    /// What came is no head, or its fields contradict one another.
+    /// The bytes are not a head, or its fields contradict one another.
     BadHead,
     /// A response doesn't say how long its body is.
     LengthNeeded,
     /// The body has a transfer coding.
     NotOffered,
-    /// The memory was refused.
+    /// Memory was refused.
     NoMemory,
 }
 
 impl Fault {
-    /// Its name, which is its text in a refusal.
+    /// Returns the fault's name, which is its text in a refusal.
     pub fn name(self) -> &'static str
         ensures { result.now ≡ fault_name self }
     {

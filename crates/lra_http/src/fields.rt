@@ -1,4 +1,4 @@
-// The fields of a head that say how long its body is.
+// Reads the fields of a head that say how long its body is.
 ghost use Rattle.std.specs.Prelude.{◌≡◌, ◌≢◌, ◌<◌, ◌≤◌, ◌^◌, ℕ, List, [], ◌∷◌, ◌++◌, length, map, min, All, IfOk, IfErr, Some, None, option_map, if◌then◌else◌};
 ghost use Rattle.std.specs.List.{list_all};
 ghost use Rattle.std.specs.Char.{is_ascii_digit};
@@ -11,7 +11,7 @@ use crate::{Bytes, Fault, Field, Fields};
 use httparse::spans::HeaderSpan;
 use std::alloc::Global;
 
-/// What the search for a field finds.
+/// What the search for a field found.
 #[derive(Clone, Copy)]
 pub enum Found<'a> {
     Absent,
@@ -19,7 +19,7 @@ pub enum Found<'a> {
     Several,
 }
 
-/// What is found once one more is.
+/// Returns what has been found after one more field with the name.
 fn with_one<'b>(found: Found<'b>, text: &'b [u8]) -> Found<'b>
     ensures { (texts : List (List ℕ)) →
         IsFound found.entry texts → IsFound result (texts ++ text.now ∷ []) }
@@ -43,21 +43,21 @@ fn sole<'b>(bytes: &'b [u8], headers: &[HeaderSpan], name: &[u8]) -> Found<'b>
     found
 }
 
-/// Whether these bytes are digits alone.
+/// Whether these bytes are only digits.
 fn all_digits(text: &[u8]) -> bool
     ensures { result ≡ list_all is_ascii_digit text.now }
 {
     text.iter().all(|b| b.is_ascii_digit())
 }
 
-/// Whether these bytes are digits alone, and one at least.
+/// Whether these bytes are one or more digits and nothing else.
 fn is_digits(text: &[u8]) -> bool
     ensures { result ≡ is_number text.now }
 {
     !text.is_empty() && all_digits(text)
 }
 
-/// The number that these bytes write, at most `most`, if they are digits alone.
+/// Returns the number that these bytes write, at most `most`, if they are only digits.
 fn number(text: &[u8], most: usize) -> Option<usize>
     requires { most < 2 ^ 32 }
     ensures { result
@@ -85,7 +85,8 @@ fn length_in(text: &[u8], limit: usize) -> Result<usize, Fault>
     }
 }
 
-/// The length of the body behind a final head with this code, or its first fault.
+/// Returns the length of the body behind a final head with this code, or the first fault of the
+/// head.
 pub fn response_size(
     bytes: &[u8],
     headers: &[HeaderSpan],
@@ -118,7 +119,7 @@ pub fn response_size(
     }
 }
 
-/// The length of the body of a request of this version, or the first fault of its fields.
+/// Returns the length of the body of a request of this version, or the first fault of its fields.
 pub fn request_size(
     bytes: &[u8],
     headers: &[HeaderSpan],
@@ -148,7 +149,7 @@ pub fn request_size(
 }
 
 impl Fields {
-    /// The value of the first field with this name, in whichever case.
+    /// Returns the value of the first field with this name, ignoring case.
     pub fn value(&self, name: &[u8]) -> Option<&[u8]>
         ensures { option_map (λ v. v.now) result ≡ first_value name.now (map field_bytes self.now) }
     {
@@ -161,7 +162,7 @@ impl Fields {
     }
 }
 
-/// The fields of a head, in order.
+/// Copies the fields of a head, in order.
 pub fn fields_of(alloc: Global, bytes: &[u8], headers: &[HeaderSpan]) -> Result<Fields, Fault>
     requires { All (IsHeaderWithin (length bytes.now)) headers.now }
     ensures ok { IfOk result

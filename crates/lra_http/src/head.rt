@@ -1,4 +1,5 @@
-// The head of a message of either kind, read line by line, so that nothing behind it is.
+// Reads the head of a message of either kind. It reads line by line, so that nothing behind the
+// head is consumed.
 ghost use Rattle.std.specs.Prelude.{◌≡◌, ◌≢◌, ℕ, ◌+◌, ◌<◌, ◌≤◌, List, ◌++◌, length, IfOk, IfErr, OnOk, ◌==◌, ◌||◌, if◌then◌else◌};
 ghost use Rattle.std.specs.List.{list_any};
 ghost use Rattle.httparse.specs.Ascii.{space};
@@ -18,13 +19,13 @@ pub const MAX_HEAD_BYTES: usize = 16_384;
 /// The most field lines of a message's head, or of all heads of a response together.
 pub const MAX_HEAD_LINES: usize = 64;
 
-/// Room for so many bytes is made before any comes: most heads have fewer.
+/// The room that is made before any byte comes: most heads are shorter.
 const HEAD_ROOM: usize = 512;
 
-/// So many bytes of a line are read at once.
+/// The most bytes of a line that are read at once.
 const PART: usize = 256;
 
-/// Among so many bytes the parser is asked behind each line.
+/// Up to this many bytes the parser is asked behind each line.
 const SHORT: usize = 64;
 
 /// The two kinds of message.
@@ -43,14 +44,14 @@ pub enum HeadState {
     Long,
 }
 
-/// This state, where the limit on bytes is met.
+/// Returns this state if the head is within the limit on bytes, and `Long` otherwise.
 fn if_within(within: bool, state: HeadState) -> HeadState
     ensures { result ≡ (if within then state else HeadState.Long) }
 {
     if within { state } else { HeadState::Long }
 }
 
-/// What these bytes of a request's head are.
+/// Returns what these bytes of a request's head are.
 fn look_at_request(bytes: &[u8], headers: &mut [HeaderSpan], most: usize) -> HeadState
     ensures { IsHeadState HeadKind.Request most (length headers.old) bytes.now result }
 {
@@ -62,7 +63,7 @@ fn look_at_request(bytes: &[u8], headers: &mut [HeaderSpan], most: usize) -> Hea
     }
 }
 
-/// What these bytes of a response's head are.
+/// Returns what these bytes of a response's head are.
 fn look_at_response(bytes: &[u8], headers: &mut [HeaderSpan], most: usize) -> HeadState
     ensures { IsHeadState HeadKind.Response most (length headers.old) bytes.now result }
 {
@@ -74,8 +75,8 @@ fn look_at_response(bytes: &[u8], headers: &mut [HeaderSpan], most: usize) -> He
     }
 }
 
-/// What these bytes of a head are, which may have `most` bytes and as many field lines as there are
-/// headers.
+/// Returns what these bytes of a head are. The head may have `most` bytes and as many field lines
+/// as there are headers.
 fn look(kind: HeadKind, bytes: &[u8], headers: &mut [HeaderSpan], most: usize) -> HeadState
     ensures { IsHeadState kind most (length headers.old) bytes.now result }
 {
@@ -97,7 +98,7 @@ fn has_space(bytes: &[u8]) -> bool
     bytes.iter().any(|byte| is_space(*byte))
 }
 
-/// Whether a space has come, once these bytes have.
+/// Whether a space has come, in these bytes or before them.
 fn is_spaced(spaced: bool, part: &[u8]) -> bool
     ensures { result ≡ (spaced || list_any is_space part.now) }
 {
@@ -110,18 +111,19 @@ fn ends_empty(bytes: &[u8]) -> bool
     bytes.ends_with(b"\n\n") || bytes.ends_with(b"\n\r\n")
 }
 
-/// Whether one of three lengths is reached, at which garbage without a line's end is looked at.
+/// Whether these bytes reach one of the three lengths at which garbage without a line end is looked
+/// at.
 fn is_at_length(before: usize, size: usize) -> bool {
     [16, 256, 4_096]
         .iter()
         .any(|length| before < *length && *length <= size)
 }
 
-/// Whether the parser is asked about these bytes, of which so many came before the last part. To
-/// ask more rarely changes no clause: only more bytes are taken before `BadHead`. So it is asked
-/// where a head may end, and else a few times: a bad first line is refused at its end if it is
-/// short, and other garbage at three lengths. Empty lines before a head have no space, so that a
-/// peer that sends line ends alone isn't looked at behind each.
+/// Whether the parser is to be asked about these bytes, of which `before` came before the last
+/// part. Asking more rarely changes no clause: only more bytes are taken before `BadHead`. So the
+/// parser is asked where a head may end, and otherwise only a few times: a short bad first line is
+/// refused at its end, and other garbage at three lengths. Empty lines before a head have no space,
+/// so a peer that sends only line ends doesn't have the parser look behind each of them.
 fn is_due(spaced: bool, before: usize, bytes: &[u8], most: usize) -> bool
     ensures { MayLack spaced bytes.now most result }
 {
@@ -132,8 +134,8 @@ fn is_due(spaced: bool, before: usize, bytes: &[u8], most: usize) -> bool
         || is_at_length(before, size)
 }
 
-/// Takes some of the next bytes to the end of `head`, at most `most` and nothing behind a line
-/// feed, by way of a buffer. How many: none at the end.
+/// Moves some of the next bytes through a buffer to the end of `head`: at most `most`, and nothing
+/// behind a line feed. Returns how many: 0 at the end.
 fn take_part<S: Source>(
     source: &mut S,
     head: &mut Vec<u8>,
@@ -160,7 +162,7 @@ fn take_part<S: Source>(
     Ok(count)
 }
 
-/// What is wrong where the input ends behind these bytes, and none of their fronts is a head.
+/// Returns the fault of an input that ends behind these bytes, if no prefix of them is a head.
 fn fault_at_end(kind: HeadKind, bytes: &[u8], headers: &mut [HeaderSpan], most: usize) -> Fault
     requires none { HasNoHead kind bytes.now }
     requires most { length bytes.now ≤ most }
@@ -176,8 +178,8 @@ fn fault_at_end(kind: HeadKind, bytes: &[u8], headers: &mut [HeaderSpan], most: 
     }
 }
 
-/// The bytes of the next head, which is of this kind, has at most `most` bytes and at most as many
-/// field lines as there are headers. The bytes behind it are left.
+/// Reads the bytes of the next head, which is of this kind and has at most `most` bytes and as many
+/// field lines as there are headers. The bytes behind it are left unread.
 pub fn read_head<S: Source>(
     alloc: Global,
     source: &mut S,
@@ -192,14 +194,14 @@ pub fn read_head<S: Source>(
         × IsHeadWithin kind most (length headers.old) head.items) }
     ensures fault { IfErr result (Stops (S.stream source.old)
         (S.stream source.new) (Shows (most + 1) (RefusesHead kind most (length headers.old)))) }
-    // Where a read failed no head had come, and where memory ran out nothing behind one.
+    // If a read failed, no head had come. If memory ran out, nothing behind a head was read.
     ensures unread { IfErr result (λ fault. fault ≡ ReadFault
         → GivesWhat (S.stream source.old) (S.stream source.new) (HasNoHead kind)) }
     ensures memory { IfErr result (λ fault. fault ≡ NoMemory
         → GivesWhat (S.stream source.old) (S.stream source.new) (HasNoShorterHead kind)) }
     ensures streams { Reads
         (most + 1) interrupted.old (S.calls source.old) (S.calls source.new) result }
-    // At most a call for each byte.
+    // At most one call for each byte.
     ensures each { IfOk result (λ head.
         AllWell (length head.items) interrupted.old (S.calls source.old) (S.calls source.new)) }
     ensures counted { (S.calls source.new).interrupted + interrupted.old

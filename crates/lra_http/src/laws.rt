@@ -1,4 +1,4 @@
-// What follows of the definitions alone.
+// Laws that follow from the definitions alone.
 ghost use Rattle.std.specs.Prelude.{◌≡◌, ◌<◌, ◌⊎◌, ◌++◌, [], ◌∷◌, ℕ, List, length, map, IfSome, Some};
 ghost use Rattle.httparse.specs.Grammar.{RequestHead, ResponseHead, status_code};
 ghost use Rattle.httparse.specs.Spans.{name_and_value};
@@ -17,32 +17,33 @@ ghost use Rattle.lra_http.specs.declared.message.CallRequest.{CallRequest as The
 ghost use Rattle.lra_http.specs.declared.message.Request.{Request as TheRequest};
 ghost use Rattle.lra_http.specs.ByteResponses.{Response as TheResponse};
 
-/// An input of a request has one fault that lies in its bytes, save where more than 64 field lines
-/// came, or where what came of a target can no longer be a text: there the parser may tell either
-/// of two.
+/// An input of a request has only one fault that lies in its bytes, unless more than 64 field lines
+/// came, or what came of a target can no longer be a text: then the parser may report either of two
+/// faults.
 pub fn a_request_has_one_fault()
     ensures { (limit : ℕ) (input : List ℕ) (a b : TheFault) →
         IsOfBytes a → IsOfBytes b → ¬ (Exceeds OfRequest max_head_lines input) →
         IsTextSoFar input → RefusesRequest limit input a → RefusesRequest limit input b → a ≡ b }
 {}
 
-/// An input of a response has one fault that lies in its bytes, save where more field lines came
-/// than heads may have: there the parser may tell either of two.
+/// An input of a response has only one fault that lies in its bytes, unless more field lines came
+/// than heads may have: then the parser may report either of two faults.
 pub fn a_response_has_one_fault()
     ensures { (limit : ℕ) (input : List ℕ) (a b : TheFault) →
         IsOfBytes a → IsOfBytes b → ¬ (Behind head_room IsCrowded input) →
         RefusesResponse head_room limit input a → RefusesResponse head_room limit input b → a ≡ b }
 {}
 
-/// A whole response that is cut anywhere is none any more, and none stands before the cut.
+/// A whole response that is cut anywhere is no longer one, and no whole response stands before the
+/// cut.
 pub fn a_cut_response_is_none()
     ensures { (limit : ℕ) (prefix more : List ℕ) (h : ResponseHead) (body : List ℕ) →
         0 < length more → IsResponse head_room limit (prefix ++ more) h body [] →
         HasNoResponse head_room limit prefix }
 {}
 
-/// The text of a request with plain fields, which state the length of its body, is a whole request
-/// with its parts.
+/// The text of a request with plain fields that state the length of its body is a whole request
+/// with the same parts.
 pub fn a_written_request_is_whole()
     ensures { (limit : ℕ) (r : TheCall) (rest : List ℕ) → IsSoundCall limit r →
         (h : RequestHead) × IsRequest limit (request_text r ++ rest) h r.body rest
@@ -50,31 +51,31 @@ pub fn a_written_request_is_whole()
         × (map name_and_value h.fields ≡ map field_bytes (host_field r.host ∷ r.fields)) }
 {}
 
-/// The text of a response with plain fields, which state the length of its body, is a whole
-/// response with its parts.
+/// The text of a response with plain fields that state the length of its body is a whole response
+/// with the same parts.
 pub fn a_written_response_is_whole()
     ensures { (limit : ℕ) (r : TheResponse) (rest : List ℕ) → IsSound limit r
         → (h : ResponseHead) × IsResponse head_room limit (response_text r ++ rest) h r.body rest
         × (status_code h ≡ r.status) × (map name_and_value h.fields ≡ map field_bytes r.fields) }
 {}
 
-/// Where the bytes that are left are known, a request that is read stood at their start, and what
-/// was behind it is left.
+/// If the bytes that are left are known, a request that was read stood at their start, and what was
+/// behind it is still left.
 pub fn a_request_is_taken_off()
     ensures { (limit : ℕ) (old new : GivenBytes) (r : TheRequest) → GivesWhat old new
         (λ bytes. IsRequestMessage limit bytes r) → IfSome old.left (λ input. (rest : List ℕ)
         × ((h : RequestHead) × IsRequest limit input h r.body rest) × (new.left ≡ Some rest)) }
 {}
 
-/// Where they are known, a fault is one of theirs.
+/// If the bytes that are left are known, a fault is a fault of those bytes.
 pub fn a_fault_is_of_the_request()
     ensures { (limit : ℕ) (old new : GivenBytes) (fault : TheFault) →
         Stops old new (ShowsNoRequest limit) fault →
         IfSome old.left (λ input. RefusesRequest limit input fault) }
 {}
 
-/// Where they are known and begin with a whole request, it is read, unless a call fails or memory
-/// runs out.
+/// If the bytes that are left are known and begin with a whole request, it is read, unless a call
+/// fails or memory runs out.
 pub fn a_whole_request_is_read()
     ensures { (limit : ℕ) (old new : GivenBytes) (fault : TheFault) →
         Stops old new (ShowsNoRequest limit) fault →
@@ -82,7 +83,7 @@ pub fn a_whole_request_is_read()
         IsRequest limit input h body rest → (fault ≡ ReadFault) ⊎ (fault ≡ NoMemory)) }
 {}
 
-/// The same of a response that is read.
+/// The same as `a_request_is_taken_off`, for a response that was read.
 pub fn a_response_is_taken_off()
     ensures { (limit : ℕ) (old new : GivenBytes) (r : TheResponse) →
         GivesWhat old new (λ bytes. IsResponseMessage limit bytes r) →
@@ -90,14 +91,14 @@ pub fn a_response_is_taken_off()
         × IsResponse head_room limit input h r.body rest) × (new.left ≡ Some rest)) }
 {}
 
-/// The same of the faults of a response.
+/// The same as `a_fault_is_of_the_request`, for the faults of a response.
 pub fn a_fault_is_of_the_response()
     ensures { (limit : ℕ) (old new : GivenBytes) (fault : TheFault) →
         Stops old new (ShowsNoResponse limit) fault →
         IfSome old.left (λ input. RefusesResponse head_room limit input fault) }
 {}
 
-/// The same of a whole response.
+/// The same as `a_whole_request_is_read`, for a whole response.
 pub fn a_whole_response_is_read()
     ensures { (limit : ℕ) (old new : GivenBytes) (fault : TheFault) →
         Stops old new (ShowsNoResponse limit) fault →

@@ -1,4 +1,4 @@
-//! HTTP messages over readers and writers, one call at a time.
+//! Reads and writes HTTP messages over readers and writers, one call at a time.
 #![tactic(auto)]
 
 mod body;
@@ -39,31 +39,31 @@ pub use text::{write_request, write_response};
 /// Why a call moved no byte.
 #[derive(Clone, Copy, Debug, PartialEq, Eq)]
 pub enum CallError {
-    /// A signal came first: the call may be made again.
+    /// A signal came first. The call may be made again.
     Interrupted,
     /// The call failed.
     Failed,
 }
 
-/// What bytes are read from, one call at a time.
+/// Something that bytes are read from, one call at a time.
 pub trait Source {
     /// The bytes that it has given so far, whether its last call found the end, and the bytes that
-    /// are left, where they are known.
+    /// are left, if they are known.
     ghost stream: { Self → GivenBytes };
 
     /// How its calls came out so far.
     ghost calls: { Self → Calls };
 
-    /// Reads at most as many bytes as fit, and none only at the end or where none fits. A call that
-    /// is interrupted or fails gives none.
+    /// Reads at most as many bytes as fit, and 0 only at the end or if there is no room. A call
+    /// that is interrupted or fails gives no bytes.
     fn read_some(&mut self, buffer: &mut [u8]) -> Result<usize, CallError>
         ensures bound { IfOk result (λ n. n ≤ length buffer.new) }
         ensures bytes { CallGives (stream self.old) (stream self.new) result buffer.new }
         ensures no_end { FoundNoEnd (stream self.new) result }
         ensures calls { OneMore (calls self.old) (calls self.new) result };
 
-    /// Reads as `read_some` does, and nothing behind a line feed. Unless a source says otherwise
-    /// that is one byte: over a socket take `OverBuffer`.
+    /// Reads like `read_some`, but nothing behind a line feed. By default it reads one byte: use
+    /// `OverBuffer` over a socket.
     fn read_in_line(&mut self, buffer: &mut [u8]) -> Result<usize, CallError>
         ensures bound { IfOk result (λ n. n ≤ length buffer.new) }
         ensures bytes { CallGives (stream self.old) (stream self.new) result buffer.new }
@@ -76,17 +76,17 @@ pub trait Source {
     }
 }
 
-/// What bytes are written to, one call at a time.
+/// Something that bytes are written to, one call at a time.
 pub trait Sink {
     /// The bytes that it has taken so far, those of them that it has passed on, and those that it
-    /// holds, where they are known.
+    /// still holds, if they are known.
     ghost stream: { Self → TakenBytes };
 
     /// How its calls came out so far.
     ghost calls: { Self → Calls };
 
-    /// Writes some bytes from the start of `bytes`, at least one if there is any, and says how
-    /// many. A call that takes none of some bytes counts as failed. One that is interrupted or
+    /// Writes some bytes from the start of `bytes`, at least one if there are any, and returns how
+    /// many. A call that takes none of some bytes counts as failed. A call that is interrupted or
     /// fails takes none.
     fn write_some(&mut self, bytes: &[u8]) -> Result<usize, CallError>
         ensures bound { IfOk result (λ n. n ≤ length bytes.now) }
@@ -94,8 +94,8 @@ pub trait Sink {
         ensures bytes { CallTakes (stream self.old) (stream self.new) result bytes.now }
         ensures calls { OneMore (calls self.old) (calls self.new) result };
 
-    /// Passes on what it has taken so far. A call that is interrupted or fails may have passed on
-    /// some of it.
+    /// Passes on what the sink has taken so far. A call that is interrupted or fails may have
+    /// passed on some of it.
     fn flush(&mut self) -> Result<(), CallError>
         ensures none { Takes (stream self.old) (stream self.new) [] }
         ensures all { OnOk result (IsFlushed (stream self.new)) }

@@ -1,11 +1,11 @@
-// A list of bytes that clauses alone read.
+// A list of bytes that only clauses read.
 ghost use Rattle.std.specs.Prelude.{◌≡◌, ◌++◌, [], ◌∷◌};
 
 use std::marker::Model;
 use std::snapshot::Snapshot;
 
-/// A list of bytes that clauses alone read. It holds none of them and takes one byte, however long
-/// it gets.
+/// A list of bytes that only clauses read. It stores no byte and takes one byte of memory, however
+/// long it gets.
 #[derive(Drop)]
 pub struct Log {
     before: Option<Snapshot<Log>>,
@@ -31,7 +31,7 @@ impl Model for Log {
 }
 
 impl Log {
-    /// No byte.
+    /// Returns the empty list.
     pub fn new() -> Log
         ensures { result ≡ [] }
     {
@@ -41,7 +41,7 @@ impl Log {
         }
     }
 
-    /// One byte more, the last.
+    /// Appends a byte.
     pub fn push(&mut self, byte: &u8)
         ensures { self.new ≡ self.old ++ byte.now ∷ [] }
     {
@@ -51,7 +51,7 @@ impl Log {
         };
     }
 
-    /// These bytes more.
+    /// Appends these bytes.
     pub fn extend(&mut self, bytes: &[u8])
         ensures { self.new ≡ self.old ++ bytes.now }
     {

@@ -19,21 +19,21 @@ impl Model for Bytes {
 }
 
 impl Bytes {
-    /// These bytes.
+    /// Makes the value of these bytes.
     pub fn new(bytes: Vec<u8>) -> Bytes
         ensures { result ≡ bytes.items }
     {
         Bytes { bytes }
     }
 
-    /// These bytes as a slice.
+    /// Returns the bytes as a slice.
     pub fn as_slice(&self) -> &[u8]
         ensures { result.now ≡ self.now }
     {
         &self.bytes
     }
 
-    /// These bytes as a vector.
+    /// Returns the bytes as a vector.
     pub fn into_vec(self) -> Vec<u8>
         ensures { result.items ≡ self }
     {
@@ -56,14 +56,14 @@ impl Model for Text {
 }
 
 impl Text {
-    /// This text.
+    /// Makes the value of this text.
     pub fn new(text: String) -> Text
         ensures { result ≡ string_bytes text }
     {
         Text { text }
     }
 
-    /// This text as a `str`.
+    /// Returns the text as a `str`.
     pub fn as_str(&self) -> &str
         ensures { result.now ≡ self.now }
     {
@@ -72,7 +72,7 @@ impl Text {
 }
 
 /// A field: its name, and its value without the white space around it (RFC 9110, section 5).
-/// Neither is looked at when it is written: what comes from outside must have no line end.
+/// Neither is checked when it is written, so a caller must let no line end come in from outside.
 #[derive(Debug, Drop)]
 pub struct Field {
     pub name: Bytes,
@@ -95,14 +95,14 @@ impl Model for Fields {
 }
 
 impl Fields {
-    /// These fields.
+    /// Makes the value of these fields.
     pub fn new(list: Vec<Field>) -> Fields
         ensures { result ≡ list.items }
     {
         Fields { list }
     }
 
-    /// The fields in order.
+    /// Returns the fields in order.
     pub fn as_slice(&self) -> &[Field]
         ensures { result.now ≡ self.now }
     {
@@ -110,7 +110,7 @@ impl Fields {
     }
 }
 
-/// A request that was read. The Host field stands among the fields.
+/// A request that was read. The Host field is among the fields.
 #[derive(Debug, Drop)]
 pub struct Request {
     pub method: Method,
@@ -119,7 +119,8 @@ pub struct Request {
     pub body: Bytes,
 }
 
-/// A response. The body of one that was read is bytes, and of one that is written any `Part`.
+/// A response. The body of a response that was read is bytes; the body of a response that is
+/// written is any `Part`.
 #[derive(Debug, Drop)]
 pub struct Response<B = Bytes> {
     pub status: StatusCode,
@@ -127,7 +128,7 @@ pub struct Response<B = Bytes> {
     pub body: B,
 }
 
-/// A request that is to be written. The host stands apart from the other fields.
+/// A request to be written. The host is separate from the other fields.
 #[derive(Debug, Drop)]
 pub struct CallRequest {
     pub method: Method,

@@ -58,7 +58,7 @@ impl Calls {
     }
 }
 
-/// What an error of std's tells of a call: only one that is interrupted may be made again.
+/// Returns what an error of std says of a call: only an interrupted call may be made again.
 fn call_error(kind: ErrorKind) -> CallError
     ensures { (result ≡ CallError.Interrupted) ↔ (kind ≡ ErrorKind.Interrupted) }
 {
@@ -69,8 +69,8 @@ fn call_error(kind: ErrorKind) -> CallError
     }
 }
 
-/// What a write that took so many of the given bytes came to. One that takes none of some bytes
-/// would be made again for ever, so it failed.
+/// Returns the result of a write that took `count` of the given bytes. A write that takes none of
+/// some bytes would be repeated for ever, so it counts as failed.
 fn taken(count: usize, given: usize) -> Result<usize, CallError>
     ensures { result ≡ (if (count == 0) && nat_lt 0 given then Err CallError.Failed else Ok count) }
 {
@@ -87,7 +87,7 @@ fn is_line_feed(byte: u8) -> bool
     byte == b'\n'
 }
 
-/// A reader of std as a source.
+/// A source over a reader of std.
 #[derive(Drop)]
 pub struct OverRead<R> {
     reader: R,
@@ -115,7 +115,7 @@ impl<R> Model for OverRead<R> {
 }
 
 impl<R: Read> OverRead<R> {
-    /// Reads from this reader. No call was made so far.
+    /// Makes a source that reads from this reader. No call has been made yet.
     pub fn new(reader: R) -> OverRead<R>
         ensures { result ≡ unread reader }
     {
@@ -129,7 +129,7 @@ impl<R: Read> OverRead<R> {
 }
 
 impl<R> OverRead<R> {
-    /// Notes what a call of the reader gave, and tells it as a source does.
+    /// Records what a call of the reader gave, and returns it as a source does.
     fn note(&mut self, outcome: io::Result<usize>, buffer: &[u8]) -> Result<usize, CallError>
         requires { ReadsAtMost outcome buffer.now }
         ensures inner { self.new.inner ≡ self.old.inner }
@@ -165,7 +165,7 @@ impl<R: Read> Source for OverRead<R> {
     }
 }
 
-/// How many bytes there are up to the first line feed, with it.
+/// Returns how many bytes there are up to and including the first line feed.
 fn length_of_line(bytes: &[u8]) -> usize
     ensures bound { result ≤ length bytes.now }
     ensures line { StopsAt (take result bytes.now) line_feed }
@@ -174,8 +174,8 @@ fn length_of_line(bytes: &[u8]) -> usize
     end.map_or(bytes.len(), |place| place + 1)
 }
 
-/// Takes of what a reader has at hand as much as fits, and nothing behind a line feed. It may be
-/// none though there is more to read.
+/// Takes as much as fits of what a reader has at hand, and nothing behind a line feed. It may take
+/// nothing even if there is more to read.
 fn take_in_line<R: BufRead>(reader: &mut R, buffer: &mut [u8]) -> io::Result<usize>
     ensures bound { ReadsAtMost result buffer.new }
     ensures room { length buffer.new ≡ length buffer.old }
@@ -195,7 +195,8 @@ fn take_in_line<R: BufRead>(reader: &mut R, buffer: &mut [u8]) -> io::Result<usi
     Ok(count)
 }
 
-/// A buffered reader of std as a source. It gives a line at once, where it has one at hand.
+/// A source over a buffered reader of std. It reads a whole line in one call if the reader has one
+/// at hand.
 #[derive(Drop)]
 pub struct OverBuffer<R> {
     over: OverRead<R>,
@@ -210,7 +211,7 @@ impl<R> Model for OverBuffer<R> {
 }
 
 impl<R: BufRead> OverBuffer<R> {
-    /// Reads from this reader. No call was made so far.
+    /// Makes a source that reads from this reader. No call has been made yet.
     pub fn new(reader: R) -> OverBuffer<R>
         ensures { result ≡ unread reader }
     {
@@ -239,7 +240,7 @@ impl<R: BufRead> Source for OverBuffer<R> {
     }
 }
 
-/// A writer of std as a sink.
+/// A sink over a writer of std.
 #[derive(Drop)]
 pub struct OverWrite<W> {
     writer: W,
@@ -267,7 +268,7 @@ impl<W> Model for OverWrite<W> {
 }
 
 impl<W: Write> OverWrite<W> {
-    /// Writes to this writer. No call was made so far.
+    /// Makes a sink that writes to this writer. No call has been made yet.
     pub fn new(writer: W) -> OverWrite<W>
         ensures { result ≡ unwritten writer }
     {
@@ -279,7 +280,7 @@ impl<W: Write> OverWrite<W> {
         }
     }
 
-    /// Gives the writer back.
+    /// Returns the writer.
     pub fn into_inner(self) -> W
         ensures { result ≡ self.inner }
     {

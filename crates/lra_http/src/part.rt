@@ -4,18 +4,18 @@ ghost use Rattle.lra_http.specs.Streams.{Streams, Takes, TakesPart, too_many_int
 
 use crate::{Bytes, Sink, WriteFault, write_all};
 
-/// What the body of a message is written from.
+/// Something that the body of a message is written from.
 pub trait Part {
     /// Its bytes.
     ghost text: { Self → List ℕ };
 
-    /// How many bytes it has, or `None` where no number of 64 bits counts them.
+    /// Returns how many bytes it has, or `None` if no 64-bit number counts them.
     fn length(&self) -> Option<u64>
         ensures some { IfSome result (λ n. n ≡ length (text self.now)) }
         ensures none { IfNone result (2 ^ 64 ≤ length (text self.now)) };
 
-    /// Writes all of its bytes, or a prefix of them before a fault. `interrupted` counts the
-    /// interrupted calls of the message.
+    /// Writes all of its bytes, or only a prefix of them if there is a fault. `interrupted` counts
+    /// the interrupted calls of the message.
     fn write<W: Sink>(&self, sink: &mut W, interrupted: &mut u16) -> Result<(), WriteFault>
         requires { interrupted.old < too_many_interrupted }
         ensures ok { OnOk result (Takes (W.stream sink.old) (W.stream sink.new) (text self.now)) }

@@ -1,4 +1,4 @@
-// A whole request.
+// Reads a whole request.
 ghost use Rattle.std.specs.Prelude.{◌≡◌, ℕ, ◌+◌, ◌<◌, ◌≤◌, ◌^◌, length, IfOk, IfErr, IsUtf8, codes, map, option_map};
 ghost use Rattle.httparse.specs.Grammar.{IsToken};
 ghost use Rattle.lra_http.specs.Streams.{GivesWhat, Reads};
@@ -20,8 +20,8 @@ use httparse::spans::{EMPTY_HEADER_SPAN, HeaderSpan, RequestSpans, parse_request
 use std::alloc::Global;
 
 impl Request {
-    /// The value of its Host field: the host, and a port behind a colon where one is named. A
-    /// request of version 1.0 may have none.
+    /// Returns the value of the Host field: the host, and a port behind a colon if one is named. A
+    /// request of version 1.0 may have no Host field.
     pub fn host(&self) -> Option<&[u8]>
         ensures { option_map
             (λ v. v.now) result ≡ first_value (codes "host") (map field_bytes self.now.fields) }
@@ -52,7 +52,7 @@ fn method_of(alloc: Global, name: &[u8]) -> Result<Method, Fault>
     }
 }
 
-/// These bytes as a text.
+/// Copies these bytes as a text.
 fn text_of(alloc: Global, bytes: &[u8]) -> Result<Text, Fault>
     requires { IsUtf8 bytes.now }
     ensures ok { IfOk result (λ text. text ≡ bytes.now) }
@@ -65,21 +65,21 @@ fn text_of(alloc: Global, bytes: &[u8]) -> Result<Text, Fault>
 }
 
 /// Reads the next request (RFC 9112): a head, and the body that its Content-Length states, of at
-/// most `limit` bytes, empty without one. What is behind it is left unread, for which the head is
-/// read within its lines (`Source::read_in_line`). Errors: each `Fault` but `WriteFault` and
-/// `LengthNeeded`.
+/// most `limit` bytes. Without Content-Length the body is empty. What is behind the request is left
+/// unread: that is why the head is read within its lines (`Source::read_in_line`). Errors: each
+/// `Fault` but `WriteFault` and `LengthNeeded`.
 pub fn read_request<S: Source>(
     alloc: Global,
     source: &mut S,
     limit: usize,
 ) -> Result<Request, Fault>
     requires limit { limit < 2 ^ 31 }
-    // What is given is one whole request, and no byte more.
+    // The source gave one whole request, and no byte more.
     ensures message { IfOk result (λ request. GivesWhat (S.stream source.old) (S.stream source.new)
         (λ bytes. IsRequestMessage limit bytes request)) }
-    // What is given before each fault shows it, whatever follows.
+    // What the source gave before a fault shows that fault, whatever follows.
     ensures fault { IfErr result (Stops (S.stream source.old) (S.stream source.new) (ShowsNoRequest limit)) }
-    // A read fault has its cause, no call follows one that failed, and there are at most so many.
+    // A read fault has its cause, no call follows a failed one, and the number of calls is bounded.
     ensures streams { Reads
         (max_head_bytes + 1 + limit) 0 (S.calls source.old) (S.calls source.new) result }
 {

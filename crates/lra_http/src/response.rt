@@ -1,4 +1,4 @@
-// A whole response.
+// Reads a whole response.
 ghost use Rattle.std.specs.Prelude.{◌≡◌, ℕ, ◌+◌, ◌<◌, ◌≤◌, ◌^◌, length, IfOk, IfErr, OnOk};
 ghost use Rattle.http.specs.StatusCode.{IsStatusCode};
 ghost use Rattle.lra_http.specs.Streams.{GivesWhat, Reads, too_many_interrupted};
@@ -43,8 +43,8 @@ fn is_interim_code(code: u16) -> bool
     100 <= code && code < 200
 }
 
-/// The final head of a response, behind the interim ones, which are skipped. What is behind it is
-/// left.
+/// Reads the final head of a response and skips the interim heads before it. What is behind it is
+/// left unread.
 fn read_final_head<S: Source>(
     alloc: Global,
     source: &mut S,
@@ -55,7 +55,8 @@ fn read_final_head<S: Source>(
         (λ given. IsFinalRead given head.items)) }
     ensures fault { IfErr result (Stops (S.stream source.old)
         (S.stream source.new) (Shows (max_head_bytes + 1) (RefusesHeads head_room))) }
-    // Where a read failed no final head had come, and where memory ran out nothing behind one.
+    // If a read failed, no final head had come. If memory ran out, nothing behind a final head was
+    // read.
     ensures unread { IfErr result (λ fault. fault ≡ ReadFault
         → GivesWhat (S.stream source.old) (S.stream source.new) (HasNoFinal head_room)) }
     ensures memory { IfErr result (λ fault. fault ≡ NoMemory
@@ -79,7 +80,7 @@ fn read_final_head<S: Source>(
             interrupted,
         )?;
         let spans = parts_of(&head, &mut headers);
-        // One that goes past the room for heads was `HeadTooLong` before.
+        // A head beyond the room for heads was already refused as `HeadTooLong`.
         if spans.code == 101 {
             return Err(Fault::BadHead);
         }
@@ -91,33 +92,33 @@ fn read_final_head<S: Source>(
     }
 }
 
-/// What the heads of a response tell.
+/// What the heads of a response say.
 #[derive(Clone, Copy, Debug, PartialEq, Eq)]
 pub struct FinalHead {
     pub status: StatusCode,
     /// How many bytes the body has.
     pub size: usize,
-    /// How many calls of the message were interrupted so far, fewer than 1,024. The count is handed
-    /// on to what reads the body.
+    /// How many calls of the message were interrupted so far, fewer than 1,024. The count is passed
+    /// to the function that reads the body.
     pub interrupted: u16,
 }
 
-/// Reads the heads of the next response (RFC 9112): interim ones, which are skipped, and the final
-/// one. The body, of at most `limit` bytes, is left unread. Errors: each `Fault` but `WriteFault`.
+/// Reads the heads of the next response (RFC 9112): interim heads, which are skipped, and the final
+/// head. The body, of at most `limit` bytes, is left unread. Errors: each `Fault` but `WriteFault`.
 pub fn read_response_head<S: Source>(
     alloc: Global,
     source: &mut S,
     limit: usize,
 ) -> Result<FinalHead, Fault>
     requires limit { limit < 2 ^ 31 }
-    // What is given is the heads of a response, and no byte more.
+    // The source gave the heads of a response, and no byte more.
     ensures head { IfOk result (λ head. GivesWhat (S.stream source.old) (S.stream source.new)
         (λ given. IsHeadRead limit given head.status head.size)) }
     ensures bound { IfOk result (λ head. head.size ≤ limit) }
-    // What is given before each fault shows it, and none of it stands behind a final head.
+    // What the source gave before a fault shows that fault, and none of it is behind a final head.
     ensures fault { IfErr result
         (Stops (S.stream source.old) (S.stream source.new) (ShowsNoHead limit)) }
-    // A read fault has its cause, no call follows one that failed, and there are at most so many.
+    // A read fault has its cause, no call follows a failed one, and the number of calls is bounded.
     ensures streams { Reads (max_head_bytes + 1) 0 (S.calls source.old) (S.calls source.new) result }
     ensures counted { IfOk result (λ head. (S.calls source.new).interrupted
         ≡ (S.calls source.old).interrupted + head.interrupted) }
@@ -136,21 +137,21 @@ pub fn read_response_head<S: Source>(
 }
 
 /// Reads the next response (RFC 9112): interim heads, which are skipped, the final head, and the
-/// body that its Content-Length states, of at most `limit` bytes. What is behind it is left unread,
-/// for which heads are read within their lines (`Source::read_in_line`). Errors: each `Fault` but
-/// `WriteFault`.
+/// body that its Content-Length states, of at most `limit` bytes. What is behind the response is
+/// left unread: that is why heads are read within their lines (`Source::read_in_line`). Errors:
+/// each `Fault` but `WriteFault`.
 pub fn read_response<S: Source>(
     alloc: Global,
     source: &mut S,
     limit: usize,
 ) -> Result<Response, Fault>
     requires limit { limit < 2 ^ 31 }
-    // What is given is one whole response, and no byte more.
+    // The source gave one whole response, and no byte more.
     ensures message { IfOk result (λ response. GivesWhat (S.stream source.old) (S.stream source.new)
         (λ bytes. IsResponseMessage limit bytes response)) }
-    // What is given before each fault shows it, whatever follows.
+    // What the source gave before a fault shows that fault, whatever follows.
     ensures fault { IfErr result (Stops (S.stream source.old) (S.stream source.new) (ShowsNoResponse limit)) }
-    // A read fault has its cause, no call follows one that failed, and there are at most so many.
+    // A read fault has its cause, no call follows a failed one, and the number of calls is bounded.
     ensures streams { Reads
         (max_head_bytes + 1 + limit) 0 (S.calls source.old) (S.calls source.new) result }
 {

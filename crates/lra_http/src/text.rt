@@ -1,4 +1,4 @@
-// The texts of messages, and writing them.
+// Makes the texts of messages, and writes them.
 ghost use Rattle.std.specs.Prelude.{◌≡◌, ◌+◌, ◌++◌, length, IfOk, OnOk, OnErr};
 ghost use Rattle.lra_http.specs.Streams.{IsFlushed, Streams, Takes, TakesPart, Writes};
 ghost use Rattle.lra_http.specs.MessageTexts.{field_line, field_lines, host_line, phrase, request_head, request_line, request_text, response_head, status_line, text_with};
@@ -25,7 +25,8 @@ fn push_fields(text: &mut Vec<u8>, fields: &[Field]) -> Result<(), AllocError>
     Ok(())
 }
 
-/// The usual phrase of a code, as `http` has it. A code without one keeps the space before it.
+/// Returns the usual phrase of a code, as `http` has it. A code without a phrase keeps the space
+/// before it.
 #[tactic(auto, unfolding(crate::specs::MessageTexts::phrase))]
 fn phrase_of(status: StatusCode) -> &'static str
     ensures { result.now ≡ phrase status }
@@ -97,20 +98,20 @@ fn write_parts<W: Sink, B: Part>(sink: &mut W, head: &[u8], body: &B) -> Result<
     flush(sink, &mut interrupted)
 }
 
-/// Writes a response: its text, or a prefix of it before a fault. The length of the body stands in
-/// the text only if it is among the fields. Errors: `WriteFault`, and `NoMemory` before anything is
-/// written.
+/// Writes a response: its whole text, or only a prefix of it if there is a fault. The length of the
+/// body stands in the text only if it is among the fields. Errors: `WriteFault`, and `NoMemory`
+/// before anything is written.
 pub fn write_response<W: Sink, B: Part>(
     alloc: Global,
     sink: &mut W,
     response: &Response<B>,
 ) -> Result<(), Fault>
-    // All of the text was taken and passed on, or before a fault a prefix of it was taken.
+    // All of the text was taken and passed on; if there was a fault, a prefix of it was taken.
     ensures ok { OnOk result (Takes (W.stream sink.old)
         (W.stream sink.new) (text_with B.text response.now) × IsFlushed (W.stream sink.new)) }
     ensures part { OnErr result
         (TakesPart (W.stream sink.old) (W.stream sink.new) (text_with B.text response.now)) }
-    // A write fault has its cause, and where the memory is refused no call was made.
+    // A write fault has its cause, and if memory was refused no call was made.
     ensures streams { Writes (length (text_with B.text response.now) + 1)
         (W.calls sink.old) (W.calls sink.new) (sink.new ≡ sink.old) result }
 {
@@ -119,20 +120,20 @@ pub fn write_response<W: Sink, B: Part>(
     Ok(())
 }
 
-/// Writes a request: its text, or a prefix of it before a fault. The length of the body stands in
-/// the text only if it is among the fields. Errors: `WriteFault`, and `NoMemory` before anything is
-/// written.
+/// Writes a request: its whole text, or only a prefix of it if there is a fault. The length of the
+/// body stands in the text only if it is among the fields. Errors: `WriteFault`, and `NoMemory`
+/// before anything is written.
 pub fn write_request<W: Sink>(
     alloc: Global,
     sink: &mut W,
     request: &CallRequest,
 ) -> Result<(), Fault>
-    // All of the text was taken and passed on, or before a fault a prefix of it was taken.
+    // All of the text was taken and passed on; if there was a fault, a prefix of it was taken.
     ensures ok { OnOk result (Takes (W.stream sink.old)
         (W.stream sink.new) (request_text request.now) × IsFlushed (W.stream sink.new)) }
     ensures part { OnErr result
         (TakesPart (W.stream sink.old) (W.stream sink.new) (request_text request.now)) }
-    // A write fault has its cause, and where the memory is refused no call was made.
+    // A write fault has its cause, and if memory was refused no call was made.
     ensures streams { Writes (length (request_text request.now) + 1)
         (W.calls sink.old) (W.calls sink.new) (sink.new ≡ sink.old) result }
 {
