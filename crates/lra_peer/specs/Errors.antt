@@ -1,4 +1,4 @@
--- The texts of what stops a pull.
+-- The texts of the errors of a pull.
 use Rattle.std.specs.Prelude.{◌++◌, ℕ, List, codes}
 use Rattle.std.specs.Fmt.{decimal}
 use Rattle.lra_http.specs.Faults.{fault_name}

@@ -1,4 +1,4 @@
--- What comes of a pull.
+-- What a pull results in.
 use Rattle.std.specs.Prelude.{◌≡◌, ◌≢◌, ◌⊎◌, ℕ, ◌+◌, ◌≤◌, List, [], ◌++◌, length, take, Result, Ok, Err, IfErr, IfOk, IfSome, MatchResult, if◌then◌else◌, ◌==◌}
 use Rattle.httparse.specs.Grammar.{ResponseHead, status_code}
 use Rattle.lra_delta.specs.declared.version.Version.{Version}
@@ -27,7 +27,8 @@ pull_reads = max_head_bytes + 1 + max_frame_bytes
 
 -- ---- the request
 
--- Not all of the text was taken: a write failed, and nothing was read; or memory ran out before, and nothing was read or written.
+-- Not all of the text was taken: either a write failed, and nothing was read; or memory ran out
+-- before, and nothing was read or written.
 abbrev pub IsUnsent : (old new : TakenBytes) (before after : Calls) → List ℕ → (unread untouched : Type 0) → HttpFault → Type 0
 IsUnsent old new before after text unread untouched fault =
     ((fault ≡ WriteFault) × TakesPart old new text × IsLost (length text + 1) 0 before after × unread)
@@ -40,21 +41,23 @@ IsUnsentBy old new before after text unread untouched Misdirected = ⊥
 
 -- ---- the answer
 
--- the bytes are a whole response with this status and this body, and no byte more
+-- the bytes are exactly a whole response with this status and this body
 pub record IsAnswer (bytes : List ℕ) (status : ℕ) (body : List ℕ) : Type 0 where
   pub head : ResponseHead
   pub whole : IsResponse head_room max_frame_bytes bytes head body []
   pub status_is : status_code head ≡ status
 
--- the error of another status than 200: 421 says that another node answers than the one that was asked
+-- the error for a status other than 200: 421 says that another node answered than the one that was
+-- asked
 abbrev pub other_of : ℕ → PullError
 other_of status = if status == 421 then Misdirected else Fault NotOffered
 
--- the heads state another status than 200, which is the error, and no byte of the body was given
+-- the heads state a status other than 200, which is the error, and no byte of the body was given
 abbrev pub IsOther : List ℕ → PullError → Type 0
 IsOther bytes error = (status : ℕ) × (size : ℕ) × IsHeadRead max_frame_bytes bytes status size × (status ≢ 200) × (error ≡ other_of status)
 
--- the heads state status 200 and a body of so many bytes, of which these were given, and no byte behind it
+-- the heads state status 200 and a body of this size, of which these bytes were given, and no byte
+-- behind it
 pub record IsOffered (bytes : List ℕ) (size : ℕ) (body : List ℕ) : Type 0 where
   pub heads : List ℕ
   pub split : bytes ≡ heads ++ body
@@ -68,8 +71,9 @@ error_of CutShort = Fault Cut
 error_of ReadFailed = Fault ReadFault
 error_of Memory = Fault NoMemory
 
--- What was given of the body shows why it is no frame, whatever follows, and of a bad field no byte more was given than shows it; before
--- a cut or a failed read no field had broken its rule.
+-- What was given of the body shows why it is not a frame, whatever follows. Of a bad field, no more
+-- bytes were given than show that it is bad. Before a cut or a failed read, no field had broken its
+-- rule.
 abbrev pub RefusesBody : List ℕ → PullError → Type 0
 RefusesBody bytes error =
     (size : ℕ) × (body : List ℕ) × (stop : Stop) × IsOffered bytes size body × Refuses size stop body × (error ≡ error_of stop)
@@ -78,7 +82,8 @@ RefusesBody bytes error =
 abbrev pub RefusesHead : List ℕ → PullError → Type 0
 RefusesHead bytes error = (fault : HttpFault) × ShowsNoHead max_frame_bytes bytes fault × (error ≡ Fault fault)
 
--- why bytes tell no delta: by their heads, which come first, by another status, or by the body
+-- why the bytes hold no delta: because of their heads, which come first, because of another status,
+-- or because of the body
 abbrev pub RefusesPull : List ℕ → PullError → Type 0
 RefusesPull bytes error = RefusesHead bytes error ⊎ (IsOther bytes error ⊎ RefusesBody bytes error)
 
@@ -88,7 +93,7 @@ Reads before after (Fault fault) = OnReadFault (IsLost pull_reads 0 before after
 Reads before after (BadFrame place) = AllWell pull_reads 0 before after
 Reads before after Misdirected = AllWell pull_reads 0 before after
 
--- what was given tells no delta, and a cut comes where the last call found the end
+-- what was given holds no delta, and a cut comes only if the last call found the end
 pub record StopsPull (old new : GivenBytes) (before after : Calls) (error : PullError) : Type 0 where
   pub bytes : List ℕ
   pub gives : Gives old new bytes
@@ -96,28 +101,29 @@ pub record StopsPull (old new : GivenBytes) (before after : Calls) (error : Pull
   pub ended : error ≡ Fault Cut → FoundEnd new
   pub reads : Reads before after error
 
--- what was given is a whole response with status 200, whose body encodes the delta in a version, and no byte more
+-- what was given is exactly a whole response with status 200, whose body encodes the delta in some
+-- version
 abbrev pub TellsDelta : (old new : GivenBytes) (before after : Calls) → Frame → Type 0
 TellsDelta old new before after delta =
     ((version : Version) × IsDeltaAs version delta × GivesWhat old new (λ bytes. IsAnswer bytes 200 (encoding_as version delta))) × AllWell pull_reads 0 before after
 
--- it lies in a call or in the memory, and not in the bytes that came
+-- the error lies in a call or in the memory, and not in the bytes that came
 abbrev pub IsOfStreams : PullError → Type 0
 IsOfStreams error = (error ≡ Fault WriteFault) ⊎ ((error ≡ Fault ReadFault) ⊎ (error ≡ Fault NoMemory))
 
--- what comes of the reading of a body
+-- what the reading of a body results in
 abbrev pub told_by : Result Frame Stop → Result Frame PullError
 told_by (Ok delta) = Ok delta
 told_by (Err stop) = Err (error_of stop)
 
--- what reading a body of so many bytes gave
+-- what reading a body of this size gave
 pub record IsBodyRead (size before : ℕ) (old new : GivenBytes) (calls_before calls_after : Calls) (read : Result Frame Stop) : Type 0 where
   pub frame : IfOk read (λ delta. (version : Version) × IsDeltaAs version delta × (length (encoding_as version delta) ≡ size) × Gives old new (encoding_as version delta))
   pub stop : IfErr read (StopsReading size old new)
   pub known : IfSome old.left (λ ahead. Says read (read_of size (take size ahead)))
   pub calls : ReadsCalls size before calls_before calls_after read
 
--- a frame that stands whole at the start of the input is the result, unless a call fails or memory runs out
+-- a whole frame at the start of the input is the result, unless a call fails or memory runs out
 abbrev pub IsFound : List ℕ → Result Frame PullError → Type 0
 IsFound input result =
     (bytes rest : List ℕ) (version : Version) (frame : Frame) → input ≡ bytes ++ rest → IsDeltaAs version frame → IsAnswer bytes 200 (encoding_as version frame) → MatchResult result (λ delta. delta ≡ frame) IsOfStreams

@@ -1,4 +1,4 @@
--- What a pull is answered.
+-- How a pull is answered.
 use Rattle.std.specs.Prelude.{◌≡◌, List, ℕ, MatchResult, Result, Ok, Err}
 use Rattle.lra_id.specs.Fronts.{meet_fronts}
 use Rattle.lra_facts.specs.declared.refusal.Refusal.{Refusal}
@@ -6,7 +6,8 @@ use Rattle.lra_facts.specs.declared.refusal.Refusal.TheVariants.{NoMemory}
 use Rattle.lra_history.specs.Views.{View}
 use Rattle.lra_delta.specs.Frames.{Frame, frame_of}
 
--- the frame of the view since what both fronts count, unless memory runs out, or the fault of what was asked
+-- the frame of the view since what both fronts count, unless memory runs out; or the refusal of a
+-- bad body
 abbrev pub Serves : View → Result (List ℕ) Refusal → Result Frame Refusal → Type 0
 Serves view (Ok front) result = MatchResult result (λ delta. delta ≡ frame_of view (meet_fronts front view.front)) (λ refusal. refusal ≡ NoMemory)
 Serves view (Err refusal) result = result ≡ Err refusal

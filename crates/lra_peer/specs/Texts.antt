@@ -7,17 +7,18 @@ use Rattle.lra_http.specs.declared.message.Field.{Field}
 use Rattle.lra_http.specs.MessageTexts.{line_end}
 use Rattle.lra_peer.specs.PullBodies.{pull_body}
 
--- what is asked for: a pull, with a query, which is empty or begins with its question mark
+-- the target of a pull with a query, which is empty or begins with its question mark
 abbrev pub pull_target : (query : List ℕ) → List ℕ
 pull_target query = codes "/peer/pull" ++ query
 
--- a text that may stand behind the path of a target, and leaves room for the rest of the head
+-- a text that may stand behind the path of a target, and that leaves room for the rest of the head
 pub record IsQuery (query : List ℕ) : Type 0 where
   pub text : IsUtf8 query
   pub bytes : AllPass is_uri_byte query
   pub short : length query ≤ 16000
 
--- the request for what a front lacks, with a query: a head of five lines, an empty line and the body
+-- the request for what a front lacks, with a query: a head of five lines, an empty line and the
+-- body
 abbrev pub pull_text : (query front : List ℕ) → List ℕ
 pull_text query front =
     codes "POST /peer/pull" ++ (query ++ (codes " HTTP/1.1" ++ (line_end
@@ -28,12 +29,12 @@ pull_text query front =
     ++ (line_end
     ++ pull_body front)))))))))))))
 
--- its parts
+-- the parts of the request
 
 abbrev pub field : (name value : List ℕ) → Field
 field name value = record { name = name; value = value }
 
--- with a body of so many bytes
+-- the fields for a body of this size
 abbrev pub pull_fields : ℕ → List Field
 pull_fields size =
     field (codes "Content-Type") (codes "application/octet-stream")

@@ -1,4 +1,4 @@
-// What the answer to a pull tells.
+// Reads the delta out of the answer to a pull.
 ghost use Rattle.std.specs.Prelude.{◌≡◌, ◌≢◌, ◌<◌, Result, Err, IfErr, IfOk, IfSome};
 ghost use Rattle.lra_delta.specs.Frames.{Frame};
 ghost use Rattle.lra_delta.specs.declared.input.Stop.{Stop as TheStop};
@@ -24,7 +24,7 @@ fn error_of(stop: Stop) -> PullError
     }
 }
 
-/// Why an answer with another status than 200 tells no delta.
+/// Returns the error for an answer whose status isn't 200.
 fn other_of(status: u16) -> PullError
     ensures { result ≡ other_of status }
 {
@@ -35,7 +35,7 @@ fn other_of(status: u16) -> PullError
     }
 }
 
-/// The delta that a body tells, of so many bytes.
+/// Reads the delta out of the body, whose size the head states.
 fn body_of<R: Source>(alloc: Global, reader: &mut R, head: FinalHead) -> Result<Delta, PullError>
     requires { head.interrupted < too_many_interrupted }
     ensures { (read : Result Frame TheStop) × (result ≡ told_by read)
@@ -49,7 +49,7 @@ fn body_of<R: Source>(alloc: Global, reader: &mut R, head: FinalHead) -> Result<
     }
 }
 
-/// The delta that an answer tells whose heads were read: its status is to be 200.
+/// Reads the delta of an answer whose heads were read. The status must be 200.
 fn delta_of<R: Source>(alloc: Global, reader: &mut R, head: FinalHead) -> Result<Delta, PullError>
     requires { head.interrupted < too_many_interrupted }
     ensures other { head.status ≢ 200 →
@@ -64,7 +64,7 @@ fn delta_of<R: Source>(alloc: Global, reader: &mut R, head: FinalHead) -> Result
     body_of(alloc, reader, head)
 }
 
-/// The delta that the next response tells.
+/// Reads the delta out of the next response.
 pub fn read_answer<R: Source>(alloc: Global, reader: &mut R) -> Result<Delta, PullError>
     ensures message { IfOk result (TellsDelta (R.stream reader.old)
         (R.stream reader.new) (R.calls reader.old) (R.calls reader.new)) }

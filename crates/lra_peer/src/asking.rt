@@ -1,4 +1,4 @@
-// The request of a pull.
+// Makes the request of a pull.
 ghost use Rattle.std.specs.Prelude.{◌≡◌, IfOk};
 ghost use Rattle.lra_http.specs.MessageTexts.{request_text};
 ghost use Rattle.lra_peer.specs.Texts.{field, pull_fields, pull_request, pull_target, pull_text};
@@ -18,7 +18,7 @@ fn field(alloc: Global, name: &str, value: &str) -> Result<Field, AllocError>
     })
 }
 
-/// The fields of a pull whose body has so many bytes.
+/// Makes the fields of a pull whose body has `size` bytes.
 fn pull_fields(alloc: Global, size: usize) -> Result<Fields, AllocError>
     ensures { IfOk result (λ fields. fields ≡ pull_fields size) }
 {
@@ -36,7 +36,7 @@ fn text(alloc: Global, text: &str) -> Result<Text, AllocError>
     Ok(Text::new(String::from_str(alloc, text)?))
 }
 
-/// The target of a pull with a query.
+/// Makes the target of a pull with a query.
 fn target(alloc: Global, query: &str) -> Result<Text, AllocError>
     ensures { IfOk result (λ made. made ≡ pull_target query.now) }
 {
@@ -57,7 +57,7 @@ fn parts_of(alloc: Global, query: &str, front: &Front) -> Result<CallRequest, Al
     })
 }
 
-/// The request for what a front lacks, with a query.
+/// Makes the request for what a front lacks, with a query.
 pub fn pull_request(alloc: Global, query: &str, front: &Front) -> Result<CallRequest, AllocError>
     ensures { IfOk result (λ request. request_text request ≡ pull_text query.now front.now) }
 {

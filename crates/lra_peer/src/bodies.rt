@@ -1,4 +1,4 @@
-// The body of a pull.
+// Writes and reads the body of a pull.
 ghost use Rattle.std.specs.Prelude.{◌≡◌, ◌++◌, ◌≤◌, ◌*◌, ℕ, List, Ok, IfErr, IfOk, OnOk, length};
 ghost use Rattle.std.specs.Int.{from_be_bytes, w64};
 ghost use Rattle.lra_id.specs.declared.TheConstants.{MAX_NODES};
@@ -11,7 +11,7 @@ use lra_facts::Refusal;
 use lra_id::{Front, LAST_NUMBER};
 use std::alloc::{AllocError, Global};
 
-/// Adds counts, each in 8 bytes.
+/// Appends counts, each in 8 bytes.
 fn push_counts(body: &mut Vec<u8>, counts: &[u64]) -> Result<(), AllocError>
     ensures { OnOk result (body.new.items ≡ body.old.items ++ vector counts.now) }
 {
@@ -21,8 +21,8 @@ fn push_counts(body: &mut Vec<u8>, counts: &[u64]) -> Result<(), AllocError>
     Ok(())
 }
 
-/// The body of a pull from a front: how many nodes there are in 1 byte, and the front's count of
-/// each in 8.
+/// Makes the body of a pull from a front: the number of nodes in 1 byte, and the front's count of
+/// each node in 8.
 pub fn pull_body(alloc: Global, front: &Front) -> Result<Vec<u8>, AllocError>
     ensures { IfOk result (λ body. body.items ≡ pull_body front.now) }
 {
@@ -32,7 +32,7 @@ pub fn pull_body(alloc: Global, front: &Front) -> Result<Vec<u8>, AllocError>
     Ok(body)
 }
 
-/// A number of 8 bytes.
+/// Reads a number of 8 bytes.
 fn number_in(bytes: &[u8]) -> u64
     requires { length bytes.now ≡ 8 }
     ensures { result ≡ from_be_bytes w64 bytes.now }
@@ -42,7 +42,7 @@ fn number_in(bytes: &[u8]) -> u64
     u64::from_be_bytes(cells)
 }
 
-/// So many numbers of 8 bytes each, from the start of the bytes.
+/// Reads this many numbers of 8 bytes each from the start of the bytes.
 fn counts_in(nodes: usize, bytes: &[u8]) -> Front
     requires some { 1 ≤ nodes }
     requires few { nodes ≤ MAX_NODES }
@@ -66,7 +66,7 @@ fn are_counts(counts: &[u64]) -> bool
     counts.iter().all(|count| *count <= LAST_NUMBER)
 }
 
-/// The front that all of the bytes encode, behind the count of nodes.
+/// Reads the front that all of the bytes behind the number of nodes encode.
 fn front_in(nodes: usize, bytes: &[u8]) -> Result<Front, Refusal>
     requires some { 1 ≤ nodes }
     requires few { nodes ≤ MAX_NODES }
@@ -103,19 +103,20 @@ fn front_of_body(nodes: usize, body: &[u8]) -> Result<Front, Refusal>
     front_in(nodes, counts)
 }
 
-/// The front that the body of a pull asks from, of a node that counts 1 to 8 nodes. It takes no
-/// memory. E16 at place 0 where the body counts another number of nodes, at 1 where the front isn't
-/// whole or has a count of more than 48 bits, and just past the front where bytes are left over.
+/// Returns the front from which the body of a pull asks. The node that reads it counts 1 to 8
+/// nodes. It takes no memory. E16 at place 0 if the body counts another number of nodes, at 1 if
+/// the front isn't whole or has a count of more than 48 bits, and just past the front if bytes are
+/// left over.
 pub fn front_of_pull(nodes: usize, body: &[u8]) -> Result<Front, Refusal>
     requires some { 1 ≤ nodes }
     requires few { nodes ≤ MAX_NODES }
-    // Which front, or which place, it is.
+    // Which front, or which place, the result is.
     ensures exact { result ≡ asked nodes body.now }
-    // It is a place, whatever else refusals may be.
+    // The refusal is a place, whatever other refusals there are.
     ensures cause { IfErr result (λ refusal. (place : ℕ) × (refusal ≡ BadFrame place)) }
-    // What is read keeps the rules, and is encoded so.
+    // A front that is read keeps the rules, and the body encodes it.
     ensures found { IfOk result (λ front. IsAsked nodes front × (body.now ≡ pull_body front)) }
-    // What is encoded so is read.
+    // A front that the body encodes is read.
     ensures only { (front : List ℕ) →
         IsAsked nodes front → body.now ≡ pull_body front → result ≡ Ok front }
 {

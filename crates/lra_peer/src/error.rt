@@ -1,21 +1,20 @@
-// Why a pull gives no delta.
+// Why a pull returns no delta.
 ghost use Rattle.std.specs.Prelude.{Some};
 ghost use Rattle.lra_peer.specs.Errors.{error_text};
 
 use lra_http::Fault;
 use std::fmt;
 
-/// Why a pull gives no delta.
+/// Why a pull returns no delta.
 #[derive(Clone, Copy, Debug, PartialEq, Eq)]
 pub enum PullError {
-    /// The request was not written, or no whole response was read: `NotOffered` also where its
-    /// status is neither 200 nor 421, and `NoMemory` also where memory ran out elsewhere in the
-    /// call.
+    /// The request was not written, or no whole response was read. It is also `NotOffered` if the
+    /// status is neither 200 nor 421, and `NoMemory` if memory ran out elsewhere in the call.
     Fault(Fault),
-    /// E16: the body of the response is no frame, whatever follows of it. The place of its first
-    /// field that isn't whole within the stated length or breaks its rule.
+    /// E16: the body of the response is not a frame, whatever follows. The place is that of its
+    /// first field that isn't whole within the stated length or breaks its rule.
     BadFrame(u64),
-    /// The status of the response is 421: another node answers than the one that was asked.
+    /// The status of the response is 421: another node answered than the one that was asked.
     Misdirected,
 }
 

@@ -18,10 +18,10 @@ ghost use Rattle.lra_peer.specs.PullBodies.{IsAsked, asked, pull_body};
 ghost use Rattle.lra_peer.specs.Serving.{Serves};
 ghost use Rattle.lra_peer.specs.Texts.{IsQuery, pull_target, pull_text};
 
-/// What a node takes by a pull from a node of the same history is the union of what both have: one
-/// that asks from a front which it has itself, and has the same nodes, may take what is served, and
-/// what comes of that stands for the union, with the shape. The front may be an earlier one of its
-/// own.
+/// By a pull, a node gets the union of what it and another node of the same history have. A node
+/// with the same nodes that asks from a front which it has itself may take the frame that is
+/// served, and the result stands for the union, with the shape. The front may be an earlier one of
+/// its own.
 pub fn a_pull_is_the_union()
     ensures some { (h : History) (v w front : List ℕ) (own other : View) (frame : Frame) →
         IsLawful h → IsClosed h v → IsClosed h w → StandsFor (facts h v) own →
@@ -37,9 +37,9 @@ pub fn a_pull_is_the_union()
         IsTaken own frame taken → StandsFor (facts h (join_fronts v w)) taken }
 {}
 
-/// The text of a pull from a front of 1 to 8 nodes is one whole request, with the front as its
-/// body, for a reader whose limit is at least 65 bytes: without a query, and with each that may
-/// stand in a target and has at most 16,000 bytes.
+/// The text of a pull from a front of 1 to 8 nodes is one whole request with the front as its body,
+/// for a reader whose limit is at least 65 bytes. That holds without a query, and with each query
+/// that may stand in a target and has at most 16,000 bytes.
 pub fn a_pull_is_a_whole_request()
     ensures bare { (limit : ℕ) (front rest : List ℕ) → 65 ≤ limit → length front ≤ MAX_NODES →
         (h : RequestHead) × IsRequest limit (pull_text [] front ++ rest) h (pull_body front) rest
@@ -50,8 +50,8 @@ pub fn a_pull_is_a_whole_request()
         × (h.method ≡ codes "POST") × (h.target ≡ pull_target query) }
 {}
 
-/// The text of a response with status 200, whose body encodes a frame and whose fields are plain
-/// and state its length, is an answer from which a pull takes that frame.
+/// A response with status 200, whose body encodes a frame and whose fields are plain and state its
+/// length, has a text from which a pull takes that frame.
 pub fn a_written_frame_is_an_answer()
     ensures { (r : TheResponse) (frame : Frame) → IsSound max_frame_bytes r →
         r.status ≡ 200 → r.body ≡ encoding frame → IsAnswer (response_text r) 200 (encoding frame) }

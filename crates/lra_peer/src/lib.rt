@@ -1,5 +1,5 @@
-//! Pulls: a node asks another for what it lacks, over any reader and writer, and answers those who
-//! ask.
+//! Pulls: a node asks another for the facts that it lacks, over any reader and writer, and answers
+//! the nodes that ask it.
 #![tactic(auto)]
 
 mod answer;

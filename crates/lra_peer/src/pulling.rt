@@ -1,4 +1,4 @@
-// Asking another node for what is lacked here.
+// Asks another node for what this node lacks.
 ghost use Rattle.std.specs.Prelude.{◌≡◌, ◌⊎◌, ◌++◌, ⊤, List, ℕ, IfErr, IfOk, IfSome, MatchResult, OnOk};
 ghost use Rattle.lra_delta.specs.Frames.{Frame};
 ghost use Rattle.lra_delta.specs.declared.version.Version.{Version};
@@ -32,18 +32,22 @@ fn write_pull_request<W: Sink>(
     write_request(alloc, writer, &request)
 }
 
-/// Asks another node for what is lacked by one that has the facts which a front counts: writes the
-/// request of a pull, whose target is `/peer/pull` and the query as it is given, and reads the delta
-/// out of one response with status 200, whose body has at most 67,108,864 bytes, field by field as
-/// it comes. The query is empty, or has its question mark. What is behind the response is left
-/// unread, for which its head is read one byte a call: over a socket a buffered reader goes below.
-/// It asks once, and applies nothing: what comes is for `lra_delta::prepare`, which also looks
-/// whether it is of as many nodes. Errors: Misdirected for status 421, by which a node refuses what
-/// was asked of another; each `Fault`, with NotOffered for any other status than 200; the body of
-/// either is left unread; and E16 with its place where the body is no frame, as soon as its first
-/// bad field has come, and nothing behind that field is read. It looks at no more than it must. It
-/// follows no redirect, and doesn't look at Content-Type, since a frame is told by its first bytes.
-/// The node that is asked refuses a front with too great counts.
+/// Asks another node for what a node lacks that has the facts which a front counts. It writes the
+/// request of a pull, whose target is `/peer/pull` and the query as given, and reads the delta out
+/// of one response with status 200, whose body has at most 67,108,864 bytes, field by field as it
+/// comes. The query is empty, or begins with its question mark. What is behind the response is left
+/// unread: that is why its head is read one byte a call, so use a buffered reader over a socket. It
+/// asks once, and applies nothing: the delta is for `lra_delta::prepare`, which also checks that it
+/// is for as many nodes.
+///
+/// Errors: Misdirected for status 421, by which a node refuses what was asked of another; each
+/// `Fault`, with NotOffered for any status other than 200 and 421; and E16 with its place if the
+/// body is not a frame. For Misdirected and NotOffered the body is left unread. E16 comes as soon
+/// as the first bad field has come, and nothing behind that field is read.
+///
+/// It checks no more than it must. It follows no redirect, and it ignores Content-Type, because a
+/// frame is recognized by its first bytes. The node that is asked refuses a front with counts that
+/// are too great.
 pub fn pull<R: Source, W: Sink>(
     alloc: Global,
     reader: &mut R,
@@ -57,17 +61,17 @@ pub fn pull<R: Source, W: Sink>(
         (W.stream writer.new) (W.calls writer.old) (W.calls writer.new) (pull_text query.now front.now)
         × TellsDelta (R.stream reader.old)
         (R.stream reader.new) (R.calls reader.old) (R.calls reader.new) delta) }
-    // Where each error comes: a prefix of the request was written, where a write failed, or
-    // nothing, where memory ran out before, and then nothing was read; or all of it was, and what
-    // was given tells why there is no delta, or a read failed.
+    // When each error comes. Either the request wasn't sent: a write failed behind a prefix of it,
+    // or memory ran out before anything was written, and then nothing was read. Or all of it was
+    // written, and what was given shows why there is no delta, or a read failed.
     ensures error { IfErr result (λ error. IsUnsentBy (W.stream writer.old)
         (W.stream writer.new) (W.calls writer.old) (W.calls writer.new) (pull_text query.now front.now)
         (reader.new ≡ reader.old) ((writer.new ≡ writer.old) × (reader.new ≡ reader.old)) error
         ⊎ (IsSent (W.stream writer.old) (W.stream writer.new) (W.calls writer.old)
         (W.calls writer.new) (pull_text query.now front.now) × StopsPull (R.stream reader.old)
         (R.stream reader.new) (R.calls reader.old) (R.calls reader.new) error)) }
-    // Where the bytes that are left are known, and a whole response with status 200 and a frame
-    // stands at their start, that frame is taken, unless a call fails or memory runs out.
+    // If the bytes that are left are known and begin with a whole response with status 200 and a
+    // frame, that frame is taken, unless a call fails or memory runs out.
     ensures found { IfSome (R.stream reader.old).left
         (λ input. (bytes rest : List ℕ) (version : Version) (frame : Frame) → input ≡ bytes ++ rest →
         IsDeltaAs version frame → IsAnswer bytes 200 (encoding_as version frame) →

@@ -1,4 +1,4 @@
-// Answering a node that asks.
+// Answers a node that asks.
 ghost use Rattle.std.specs.Prelude.{◌≡◌, ◌⊎◌, ℕ, List, Ok, IfErr, IfOk, length};
 ghost use Rattle.lra_id.specs.Fronts.{meet_fronts};
 ghost use Rattle.lra_facts.specs.declared.fact.Fact.{Fact};
@@ -18,7 +18,7 @@ use lra_id::Front;
 use lra_replica::Replica;
 use std::alloc::Global;
 
-/// What a replica tells since what it and an asker's front of as many nodes both count.
+/// Returns the delta since what the replica and an asker's front, of as many nodes, both count.
 #[tactic(auto, using(crate::proofs::Meets::meet_nodes))]
 fn since_both(alloc: Global, replica: &Replica, front: &Front) -> Result<Delta, Refusal>
     requires { length front.now ≡ length replica.now.front }
@@ -33,25 +33,25 @@ fn since_both(alloc: Global, replica: &Replica, front: &Front) -> Result<Delta, 
     Delta::since(alloc, replica, &base)
 }
 
-/// What a node answers to the body of a pull: the frame since what both its front and the asker's
-/// count. So there is never a gap, and the asker lacks nothing of what the frame leaves out. E16 at
-/// the place of the body's first fault: at 0 where it counts another number of nodes, at 1 where
-/// its front isn't whole or has a count of more than 48 bits, and just past the front where bytes
-/// are left over. It costs what `Delta::since` costs.
+/// Answers the body of a pull with the frame since what both this node's front and the asker's
+/// count. So there is never a gap, and the asker already has everything that the frame leaves out.
+/// E16 at the place of the body's first fault: at 0 if it counts another number of nodes, at 1 if
+/// its front isn't whole or has a count of more than 48 bits, and just past the front if bytes are
+/// left over. It costs what `Delta::since` costs.
 pub fn serve_pull(alloc: Global, body: &[u8], replica: &Replica) -> Result<Delta, Refusal>
-    // Which frame it is, or which place.
+    // Which frame, or which place, the result is.
     ensures exact { Serves
         (view_of replica.now) (asked (length replica.now.front) body.now) result }
-    // A body that is encoded as one is served.
+    // A body that encodes a front is served.
     ensures encoded { (front : List ℕ) → IsAsked (length replica.now.front) front →
         body.now ≡ pull_body front → Serves (view_of replica.now) (Ok front) result }
-    // There is no gap.
+    // A refusal is never a gap.
     ensures cause { IfErr result (λ refusal. (refusal ≡ NoMemory)
         ⊎ ((place : ℕ) × (refusal ≡ BadFrame place))) }
     ensures set { (S : List Fact) (front : List ℕ) →
         StandsFor S (view_of replica.now) → asked (length replica.now.front) body.now ≡ Ok front →
         IfOk result (λ delta. IsFrame S (meet_fronts front replica.now.front) delta) }
-    // What a node of a lawful history tells keeps the rules of frames.
+    // What a node of a lawful history sends keeps the rules of frames.
     ensures grammar { (h : History) (w : List ℕ) → IsLawful h → IsClosed h w →
         StandsFor (facts h w) (view_of replica.now) → IfOk result (λ delta. IsOfGrammar delta) }
 {
