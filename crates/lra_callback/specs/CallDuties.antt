@@ -1,4 +1,4 @@
--- What participants are called for now, over the set of facts that a node holds.
+-- What participants are called for now, given the set of facts that a node holds.
 use Rattle.std.specs.Prelude.{◌≡◌, ◌==◌, ◌&&◌, ◌||◌, ℕ, Bool, true, false, Option, Some, None, List, if◌then◌else◌, is_some, nat_lt}
 use mathlib.Core.Bool.{not}
 use Rattle.std.specs.Option.{option_map_or}
@@ -26,8 +26,8 @@ is_busy (Some Busy) = true
 is_busy (Some Done) = false
 is_busy (Some Failed) = false
 
--- the participant was heard to be busy with the act, and gave a link to ask for its status: it is asked, and the call is not
--- repeated
+-- the participant said that it is busy with the act, and gave a link to ask for its status: then
+-- the status is asked for, and the call is not repeated
 abbrev pub asks_status : List Fact → Id → ℕ → Act → Bool
 asks_status S l m act = is_busy (heard S l m act) && option_map_or (λ links. is_some links.status) (links_of S l m) false
 
@@ -37,7 +37,7 @@ act_wanted (Some Close) = Some CompleteAct
 act_wanted (Some Cancel) = Some CompensateAct
 act_wanted None = None
 
--- what is wanted demands this act
+-- the LRA's want demands this act
 abbrev pub is_act_wanted : Option Verdict → Act → Bool
 is_act_wanted (Some Close) CompleteAct = true
 is_act_wanted (Some Cancel) CompensateAct = true
@@ -45,8 +45,8 @@ is_act_wanted (Some Close) CompensateAct = false
 is_act_wanted (Some Cancel) CompleteAct = false
 is_act_wanted None act = false
 
--- whether the participant m of l is to be called so, for this act. Of one that is to forget or to hear of the end it
--- is the act that was wanted
+-- whether participant m of l is to be called in this way for this act. If it is to forget or to be
+-- notified of the end, the act is the one that was wanted
 abbrev pub is_owed : List Fact → Kind → Act → Id → ℕ → Bool
 is_owed S Complete CompleteAct l m = is_complete_duty S l m && not (asks_status S l m CompleteAct)
 is_owed S Status CompleteAct l m = is_complete_duty S l m && asks_status S l m CompleteAct
@@ -65,11 +65,11 @@ link_for Status links = links.status
 link_for Forget links = links.forget
 link_for After links = links.after
 
--- the one that a participant gave
+-- the link that a participant gave
 abbrev pub link_given : List Fact → Kind → Id → ℕ → Option (List ℕ)
 link_given S kind l m = option_map_or (link_for kind) (links_of S l m) None
 
--- what a call tells of the LRA: what it shows, where the participant hears that it has ended
+-- what a call says of the LRA: what it shows, if the participant is notified that it has ended
 abbrev pub shown_for : List Fact → Kind → Id → Option LraStatus
 shown_for S After l = Some (shows_now S l)
 shown_for S Complete l = None
@@ -77,7 +77,8 @@ shown_for S Compensate l = None
 shown_for S Status l = None
 shown_for S Forget l = None
 
--- a participant of an LRA of the home is to be called so now, at the link that it gave for it
+-- a participant of an LRA of the home is to be called in this way now, at the link that it gave for
+-- this kind
 pub record IsDuty (home : ℕ) (S : List Fact) (d : Duty) : Type 0 where
   pub own : d.id.home ≡ home
   pub held : is_held S d.id ≡ true
@@ -86,7 +87,7 @@ pub record IsDuty (home : ℕ) (S : List Fact) (d : Duty) : Type 0 where
   pub nested : d.parent ≡ parent_of S d.id
   pub shown : d.shows ≡ shown_for S d.kind d.id
 
--- The order: completions, then compensations, then what is to be forgotten, then what is to be heard
+-- The order: completions, then compensations, then forgets, then notifications of the end
 
 abbrev pub stage : Kind → Act → ℕ
 stage Complete act = 0
@@ -99,7 +100,8 @@ stage After act = 3
 abbrev pub due_of : Duty → Due
 due_of d = record { lra = d.id; member = d.member }
 
--- compensations go by the number of the topmost cancelled LRA; the others by the LRA's number, and by the member number
+-- compensations are ordered by the number of the topmost cancelled LRA, the others by the LRA's
+-- number and then the member number
 abbrev pub is_before_at : List Fact → ℕ → Due → Due → Bool
 is_before_at S n a b = if n == 1 then is_topmost_before S a b else is_before a b
 

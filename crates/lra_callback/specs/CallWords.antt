@@ -1,4 +1,4 @@
--- The words for the kinds of calls, and for what is heard of an answer.
+-- The words for the kinds of calls, and for what an answer means.
 use Rattle.std.specs.Prelude.{ℕ, List, codes}
 use Rattle.lra_id.specs.declared.outcome.Outcome.TheVariants.{Busy, Done, Failed}
 use Rattle.lra_callback.specs.declared.answer.Heard.{Heard}

@@ -1,4 +1,4 @@
--- What is made of each participant of which something is due.
+-- The duty that is made of each participant for which something is due.
 use Rattle.std.specs.Prelude.{◌&&◌, ℕ, Bool, Option, Some, List, [], if◌then◌else◌, is_some}
 use Rattle.std.specs.Option.{option_map_or}
 use Rattle.lra_id.specs.Ids.{Id}
@@ -18,7 +18,7 @@ use Rattle.lra_callback.specs.declared.duty.Errand.{Errand}
 use Rattle.lra_callback.specs.declared.duty.Errand.TheVariants.{Call, Release, Tell}
 use Rattle.lra_callback.specs.CallDuties.{act_wanted, asks_status, is_busy, link_given, shown_for}
 
--- what has to be due of a participant
+-- what must be due of a participant
 abbrev pub due_by : Errand → List Fact → Id → ℕ → Bool
 due_by (Call CompleteAct) = is_complete_duty
 due_by (Call CompensateAct) = is_compensation_due
@@ -29,7 +29,7 @@ abbrev pub kind_of_act : Act → Kind
 kind_of_act CompleteAct = Complete
 kind_of_act CompensateAct = Compensate
 
--- the kind of the next call for an act, by what is kept of the participant
+-- the kind of the next call for an act, by the participant's record
 abbrev pub kind_by : ParticipantRecord → Act → Kind
 kind_by p act = if is_busy (heard_by p act) && is_some p.links.status then Status else kind_of_act act
 
@@ -38,7 +38,7 @@ kind_in (Call act) p = kind_by p act
 kind_in Release p = Forget
 kind_in Tell p = After
 
--- and by the set
+-- the same by the set
 abbrev pub kind_from : List Fact → Errand → Due → Kind
 kind_from S (Call act) d = if asks_status S d.lra d.member act then Status else kind_of_act act
 kind_from S Release d = Forget
@@ -49,7 +49,7 @@ act_from S (Call act) d = Some act
 act_from S Release d = act_wanted (want S d.lra)
 act_from S Tell d = act_wanted (want S d.lra)
 
--- the duty that is made of it; where no act is wanted or no link was given, any act and link
+-- the duty that is made of it; any act and link if no act is wanted or no link was given
 abbrev pub duty_from : List Fact → Errand → Due → Duty
 duty_from S errand d =
     record {

@@ -1,4 +1,4 @@
--- The command that enters what was heard.
+-- The command that records what was learned.
 use Rattle.std.specs.Prelude.{ℕ, Option, Some, None}
 use Rattle.lra_id.specs.Ids.{Id}
 use Rattle.lra_id.specs.declared.outcome.Act.{Act}
@@ -7,8 +7,8 @@ use Rattle.lra_facts.specs.declared.command.Command.TheVariants.{Report, Forgot 
 use Rattle.lra_callback.specs.declared.answer.Heard.{Heard}
 use Rattle.lra_callback.specs.declared.answer.Heard.TheVariants.{Outcome, Forgot, Told, Again}
 
--- of a participant, in a call for an act: an outcome is reported of that act, or it is entered as forgotten or told; where the
--- participant is to be called again, nothing is entered
+-- what is recorded of a participant after a call for an act: an outcome is reported of that act, or
+-- the participant is recorded as forgotten or told; nothing is recorded if it is to be called again
 abbrev pub command_heard : Id → ℕ → Act → Heard → Option Command
 command_heard id m act (Outcome outcome) = Some (Report id m act outcome)
 command_heard id m act Forgot = Some (ForgotAsked id m)

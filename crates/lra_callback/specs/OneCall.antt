@@ -1,4 +1,4 @@
--- What comes of one call over a connection.
+-- What one call over a connection results in.
 use Rattle.std.specs.Prelude.{◌≡◌, ◌≢◌, ℕ, ◌+◌, List, length}
 use Rattle.http.specs.StatusCode.{IsStatusCode}
 use Rattle.lra_http.specs.declared.fault.Fault.{Fault}
@@ -21,14 +21,14 @@ pub record Ends (R W : Type 0) : Type 0 where
 abbrev pub answer_reads : ℕ
 answer_reads = max_head_bytes + 1 + max_body_bytes
 
--- the bytes are a whole response with this code and this body, and no byte more
+-- the bytes are exactly a whole response with this code and this body
 pub record HasAnswered (bytes : List ℕ) (code : ℕ) (body : List ℕ) : Type 0 where
   pub response : Response
   pub whole : IsResponseMessage max_body_bytes bytes response
   pub code_is : code ≡ response.status
   pub body_is : body ≡ response.body
 
--- a code and its body are those of the response that was given
+-- the code and the body are those of the response that was given
 abbrev pub IsCodeOf : (old new : GivenBytes) → Answer → Type 0
 IsCodeOf old new (Code code body) = GivesWhat old new (λ bytes. HasAnswered bytes code body)
 IsCodeOf old new Broken = Unit {0}
@@ -39,12 +39,12 @@ IsUnanswered old new before after =
     (fault : Fault) × (fault ≢ NoMemory) × Stops old new (ShowsNoResponse max_body_bytes) fault
     × OnReadFault (IsLost answer_reads 0 before after) (AllWell answer_reads 0 before after) fault
 
--- what was given tells the answer, and so the reads came out
+-- what was given determines the answer, and the reads came out accordingly
 abbrev pub IsTold : (old new : GivenBytes) (before after : Calls) → Answer → Type 0
 IsTold old new before after (Code code body) = IsCodeOf old new (Code code body) × AllWell answer_reads 0 before after
 IsTold old new before after Broken = IsUnanswered old new before after
 
--- a write failed, before which a part of the request was taken
+-- a write failed behind some prefix of the request
 abbrev pub IsUnsent : (old new : TakenBytes) (before after : Calls) → List ℕ → Type 0
 IsUnsent old new before after text = TakesPart old new text × IsLost (length text + 1) 0 before after
 

@@ -1,4 +1,4 @@
-// What is heard of a participant's answer.
+// Decides what a participant's answer means.
 ghost use Rattle.std.specs.Prelude.{◌≡◌, Some};
 ghost use Rattle.lra_callback.specs.CallWords.{heard_name, kind_name};
 ghost use Rattle.lra_callback.specs.HeardCommands.{command_heard};
@@ -9,8 +9,8 @@ use lra_http::Bytes;
 use lra_id::{Act, LraId, MemberStatus, Outcome};
 use std::fmt;
 
-/// What a participant is called for: to complete, to compensate, for the status of one of these, to
-/// forget, or to hear that its LRA has ended.
+/// What a participant is called for: to complete, to compensate, to report the status of one of
+/// these, to forget, or to be notified that its LRA has ended.
 #[derive(Clone, Copy, Debug, PartialEq, Eq)]
 pub enum Kind {
     Complete,
@@ -21,7 +21,7 @@ pub enum Kind {
 }
 
 impl Kind {
-    /// The word for it in commands.
+    /// Returns the word for it in commands.
     pub fn name(self) -> &'static str
         ensures { result.now ≡ kind_name self }
     {
@@ -43,31 +43,30 @@ impl fmt::Display for Kind {
     }
 }
 
-/// What came back of a call: the code and the body of a whole response, or no whole response. A
-/// code is a `u16`, since `StatusCode` of `http` has none below 100 or above 999, and each has to
-/// be heard.
+/// What came back from a call: the code and the body of a whole response, or no whole response. A
+/// code is a `u16`, because `StatusCode` of `http` has none below 100 or above 999, and every code
+/// must have a meaning here.
 #[derive(Debug, Drop)]
 pub enum Answer {
     Code(u16, Bytes),
     Broken,
 }
 
-/// What is heard of an answer. Of one that counts for nothing the participant is to be called
-/// again.
+/// What an answer means. If it counts for nothing, the participant is called again.
 #[derive(Clone, Copy, Debug, PartialEq, Eq)]
 pub enum Heard {
-    /// This outcome of the act.
+    /// The act has this outcome.
     Outcome(Outcome),
-    /// It was told to forget.
+    /// The participant was told to forget.
     Forgot,
-    /// It was told that its LRA has ended.
+    /// The participant was notified that its LRA has ended.
     Told,
-    /// Nothing that counts.
+    /// The answer counts for nothing.
     Again,
 }
 
 impl Heard {
-    /// The word for it.
+    /// Returns the word for it.
     pub fn name(self) -> &'static str
         ensures { result.now ≡ heard_name self }
     {
@@ -81,8 +80,9 @@ impl Heard {
         }
     }
 
-    /// The command that enters it, where it was heard of a participant in a call for this act: a
-    /// report of the act, a forgot or a told; none where the participant is to be called again.
+    /// Returns the command that records it, if a participant gave this answer in a call for this
+    /// act: a report of the act, a forgot or a told. Returns `None` if the participant is to be
+    /// called again.
     pub fn command(self, id: LraId, member: u8, act: Act) -> Option<Command>
         ensures { result ≡ command_heard id member act self }
     {
@@ -100,7 +100,7 @@ impl Heard {
     }
 }
 
-/// The text without the spaces, CR and LF at its start.
+/// Returns the text without the spaces, CR and LF at its start.
 fn without_leading(text: &[u8]) -> &[u8]
     ensures { result.now ≡ without_leading text.now }
 {
@@ -111,7 +111,7 @@ fn without_leading(text: &[u8]) -> &[u8]
     rest
 }
 
-/// The text without the spaces, CR and LF at its end.
+/// Returns the text without the spaces, CR and LF at its end.
 fn without_trailing(text: &[u8]) -> &[u8]
     ensures { result.now ≡ without_trailing text.now }
 {
@@ -197,7 +197,7 @@ fn heard_by_after(code: u16) -> Heard
     }
 }
 
-/// What is heard of an answer to a call of this kind. A broken answer is none.
+/// Returns what the answer to a call of this kind means. A broken answer counts for nothing.
 pub fn hear(act: Act, kind: Kind, answer: &Answer) -> Heard
     ensures { result ≡ heard_of act kind answer.now }
 {

@@ -1,4 +1,4 @@
-// One call over a connection: a request is written, and its answer read.
+// Makes one call over a connection: writes a request, and reads its answer.
 ghost use Rattle.std.specs.Prelude.{◌≡◌, ◌⊎◌, IfOk, OnErr};
 ghost use Rattle.lra_http.specs.Streams.{AllWell, IsSent};
 ghost use Rattle.lra_http.specs.MessageTexts.{request_text};
@@ -11,32 +11,32 @@ use lra_http::{CallRequest, Fault, MAX_BODY_BYTES, Sink, Source, read_response, 
 use std::alloc::Global;
 use std::marker::Model;
 
-/// The memory for a call was refused. Nothing is known of an answer.
+/// The memory for a call was refused. Nothing is known about an answer.
 #[derive(Clone, Copy, Debug, PartialEq, Eq)]
 pub struct NoMemory;
 
-/// What participants are called with.
+/// A means of calling participants.
 pub trait Caller {
-    /// What holds of the caller before and after a request was answered so: each caller says what
-    /// makes its answers true.
+    /// What holds of the caller before and after a request was answered this way. Each caller
+    /// states what makes its answers true.
     ghost answered: { (old new : Self) → TheRequest → TheAnswer → Type 0 };
 
-    /// What holds of it before and after a call whose memory was refused.
+    /// What holds of the caller before and after a call whose memory was refused.
     ghost unanswered: { (old new : Self) → TheRequest → Type 0 };
 
-    /// Makes one call. Where the request can't be brought to the participant, or no whole response
-    /// comes of it, the answer is `Broken`. Of that the trait promises what the caller's `answered`
-    /// says, and no more. Errors: out of memory, of which it promises what the caller's
-    /// `unanswered` says.
+    /// Makes one call. If the request can't reach the participant, or no whole response comes back,
+    /// the answer is `Broken`. The trait promises of the answer only what the caller's `answered`
+    /// says. Errors: out of memory, of which the trait promises only what the caller's `unanswered`
+    /// says.
     fn call(&mut self, alloc: Global, request: &CallRequest) -> Result<Answer, NoMemory>
         ensures answered { IfOk result (answered self.old self.new request.now) }
         ensures memory { OnErr result (unanswered self.old self.new request.now) }
         ensures status { IfOk result IsOfStatus };
 }
 
-/// A caller over one connection, for one call: its request says that the connection ends with the
-/// answer. Over a socket a buffered reader goes below, since a head is read one byte a call. Each
-/// clause would hold of a second call too.
+/// A caller for one call over one connection: its request says that the connection ends with the
+/// answer. Over a socket, put a buffered reader below it, because a head is read one byte a call.
+/// Each clause would hold of a second call too.
 #[derive(Drop)]
 pub struct NetCaller<R, W> {
     reader: R,
@@ -68,7 +68,7 @@ fn receive<R: Source>(alloc: Global, reader: &mut R) -> Result<Answer, NoMemory>
 }
 
 impl<R: Source, W: Sink> NetCaller<R, W> {
-    /// Calls over this reader and this writer.
+    /// Makes a caller over this reader and this writer.
     pub fn new(reader: R, writer: W) -> NetCaller<R, W>
         ensures reader { result.reader ≡ reader }
         ensures writer { result.writer ≡ writer }
@@ -76,7 +76,7 @@ impl<R: Source, W: Sink> NetCaller<R, W> {
         NetCaller { reader, writer }
     }
 
-    /// Gives the reader and the writer back.
+    /// Returns the reader and the writer.
     pub fn into_parts(self) -> (R, W)
         ensures reader { result.0 ≡ self.reader }
         ensures writer { result.1 ≡ self.writer }
@@ -85,12 +85,12 @@ impl<R: Source, W: Sink> NetCaller<R, W> {
     }
 
     /// Writes a request, and reads its answer, with a body of at most 65,536 bytes. The answer is
-    /// `Broken` where a write or a read fails, or no whole response comes. Errors: out of memory.
+    /// `Broken` if a write or a read fails, or no whole response comes. Errors: out of memory.
     pub fn ask(&mut self, alloc: Global, request: &CallRequest) -> Result<Answer, NoMemory>
-        // The answer is broken where a write failed, and then nothing was read. Else the whole
-        // request was written and passed on, and what was given since the call tells the answer: a
-        // code and a body are those of the whole response that was given, and no byte more; or what
-        // was given shows why no whole response came, or a read failed.
+        // If a write failed, the answer is broken and nothing was read. Otherwise the whole request
+        // was written and passed on, and what was given since the call determines the answer: a
+        // code and a body are exactly those of the whole response that was given; `Broken` means
+        // that what was given shows why no whole response came, or that a read failed.
         ensures told { IfOk result (λ answer. (IsBroken answer × IsUnsent (W.stream self.old.writer)
             (W.stream self.new.writer) (W.calls self.old.writer) (W.calls self.new.writer)
             (request_text request.now) × (self.new.reader ≡ self.old.reader))
@@ -98,7 +98,7 @@ impl<R: Source, W: Sink> NetCaller<R, W> {
             (W.calls self.old.writer) (W.calls self.new.writer) (request_text request.now)
             × IsTold (R.stream self.old.reader) (R.stream self.new.reader)
             (R.calls self.old.reader) (R.calls self.new.reader) answer)) }
-        // Where the memory is refused nothing was written or read, or the whole request was
+        // If memory was refused, either nothing was written or read, or the whole request was
         // written; and no call failed.
         ensures memory { OnErr result ((self.new ≡ self.old)
             ⊎ (IsSent (W.stream self.old.writer) (W.stream self.new.writer)
@@ -117,7 +117,7 @@ impl<R: Source, W: Sink> NetCaller<R, W> {
 }
 
 impl<R: Source, W: Sink> Caller for NetCaller<R, W> {
-    // The clause `told` of `ask`.
+    // Clause `told` of `ask`.
     ghost answered = { λ old new request answer. (IsBroken answer × IsUnsent (W.stream old.writer)
         (W.stream new.writer) (W.calls old.writer) (W.calls new.writer) (request_text request)
         × (new.reader ≡ old.reader))
@@ -125,7 +125,7 @@ impl<R: Source, W: Sink> Caller for NetCaller<R, W> {
         (W.calls new.writer) (request_text request) × IsTold (R.stream old.reader)
         (R.stream new.reader) (R.calls old.reader) (R.calls new.reader) answer) };
 
-    // The clause `memory` of `ask`.
+    // Clause `memory` of `ask`.
     ghost unanswered = { λ old new request. (new ≡ old) ⊎ (IsSent (W.stream old.writer)
         (W.stream new.writer) (W.calls old.writer) (W.calls new.writer) (request_text request)
         × AllWell answer_reads 0 (R.calls old.reader) (R.calls new.reader)) };

@@ -1,4 +1,4 @@
-// What participants are called for now.
+// Lists what participants are called for now.
 ghost use Rattle.std.specs.Prelude.{◌≡◌, ◌≤◌, ◌++◌, IfErr, IfOk, OnOk, filter_map, length};
 ghost use Rattle.std.specs.Option.{option_copied};
 ghost use Rattle.lra_facts.specs.declared.refusal.Refusal.TheVariants.{NoMemory};
@@ -18,24 +18,24 @@ use lra_replica::Replica;
 use std::alloc::{AllocError, Global};
 use std::marker::Model;
 
-/// A participant that is to be called: what for, at which link, and the parent of its LRA, if it is
-/// nested.
+/// A participant that is to be called: what for, at which link, and the parent of its LRA, if that
+/// is nested.
 #[derive(Debug, PartialEq, Drop)]
 pub struct Duty {
-    /// What the call is.
+    /// What the call is for.
     pub kind: Kind,
-    /// The act that is to be done, is asked about, or was done; of a forget, and of the end, the
-    /// one that the LRA wants.
+    /// The act that is to be done, is asked about, or was done. For a forget, and for the
+    /// notification of the end, it is the act that the LRA wants.
     pub act: Act,
     /// The LRA.
     pub id: LraId,
     /// The participant's member number, 1 to 32.
     pub member: u8,
-    /// Where it is called.
+    /// The link at which it is called.
     pub link: Link,
-    /// The LRA in which this one is nested.
+    /// The parent of a nested LRA.
     pub parent: Option<LraId>,
-    /// What the LRA shows, where the participant hears that it has ended.
+    /// What the LRA shows, if the participant is notified that it has ended.
     pub shows: Option<LraStatus>,
 }
 
@@ -55,14 +55,14 @@ impl Model for Duties {
 }
 
 impl Duties {
-    /// The duties in order.
+    /// Returns the duties in order.
     pub fn as_slice(&self) -> &[Duty]
         ensures { result.now ≡ self.now }
     {
         &self.list
     }
 
-    /// The duties in order, each to be kept.
+    /// Returns the duties in order, as a vector of its own.
     pub fn into_vec(self) -> Vec<Duty>
         ensures { result.items ≡ self }
     {
@@ -100,8 +100,8 @@ impl Clone for Duties {
     }
 }
 
-/// What a participant is called for: to do an act, to be released from remembering it, or to hear
-/// that its LRA has ended. The `Errand` of `lra_forest` is what is owed at a record.
+/// What a participant is called for: to do an act, to be released from remembering it, or to be
+/// notified that its LRA has ended. The `Errand` of `lra_forest` is what is owed at a record.
 #[derive(Clone, Copy)]
 enum Errand {
     Call(Act),
@@ -137,7 +137,7 @@ fn kind_in(errand: Errand, participant: &Participant) -> Kind
     }
 }
 
-/// The act that is wanted, if one is.
+/// Returns the act that is wanted, if one is.
 pub fn act_wanted(want: Option<Verdict>) -> Option<Act>
     ensures { result ≡ act_wanted want }
 {
@@ -179,7 +179,7 @@ fn act_of(replica: &Replica, errand: Errand, due: Due) -> Option<Act>
     }
 }
 
-/// What the LRA shows, where a call tells it.
+/// Returns what the LRA shows, if a call of this kind says it.
 fn shown_in(replica: &Replica, kind: Kind, id: LraId) -> Option<LraStatus>
     ensures { result ≡ shown_in (view_of replica.now) kind id }
 {
@@ -230,10 +230,10 @@ fn add(
     Ok(())
 }
 
-/// The participants in LRAs of a home that are to be called now: first to complete, by LRA and
-/// member number; then to compensate, by the number of the topmost cancelled LRA; then those to be
-/// told that they may forget, and those to be told that their LRAs have ended, by LRA and member
-/// number. Errors: NoMemory.
+/// Returns the participants in LRAs of a home that are to be called now: first those that are to
+/// complete, by LRA and member number; then those that are to compensate, by the number of the
+/// topmost cancelled LRA; then those that may forget, and those that are notified of the end of
+/// their LRAs, by LRA and member number. Errors: NoMemory.
 pub fn pick(alloc: Global, replica: &Replica, me: NodeId) -> Result<Duties, Refusal>
     requires { me ≤ length replica.now.front }
     ensures next { IfOk result (λ duties. duties ≡ duties_of (view_of replica.now) me) }

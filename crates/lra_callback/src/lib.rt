@@ -1,4 +1,5 @@
-//! What participants are called for, by which requests, and what is heard of their answers.
+//! What participants are called for, the requests by which they are called, and what their answers
+//! mean.
 #![tactic(auto)]
 
 mod answer;
