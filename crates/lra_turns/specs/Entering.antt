@@ -1,4 +1,4 @@
--- What comes of a duty of a list, and of one whose pause is over.
+-- What happens to a duty of a list, and to a participant whose pause is over.
 use Rattle.std.specs.Prelude.{◌≡◌, Bool, MatchBool, None, Some, false, true}
 use Rattle.std.specs.declared.time.Duration.{Duration}
 use Rattle.lra_callback.specs.declared.duty.Duty.{Duty}
@@ -6,15 +6,16 @@ use Rattle.lra_turns.specs.declared.slip.Slip.{Slip}
 use Rattle.lra_turns.specs.Slips.{is_called, is_over, pauses, waits}
 use Rattle.lra_turns.specs.Turns.{IsPut, Turns, changed_at, listed, place_of, with_hosts}
 
--- the host of a duty is noted, and whom to call there stays
+-- the duty's host is recorded as listed, and its queue stays
 abbrev pub noted : Duty → Turns → Turns
 noted duty now = with_hosts (changed_at (place_of duty now.hosts) listed now.hosts) now
 
--- one who is called now or pauses is on the list, and is called for this next
+-- a participant that is being called or pauses is on the list, and is called for this next
 abbrev pub keeping : Duty → Slip → Slip
 keeping duty slip = record { who = slip.who; pause = slip.pause; stand = slip.stand; kept = Some duty; is_listed = true; vain = slip.vain }
 
--- one who may be called waits for a thread, if its duty was put; how long it paused and how it was called in vain is kept
+-- a participant that may be called waits for a thread, if its duty was queued; the length of its
+-- pause and its failed calls are kept
 pub record IsMadeToWait (is_put : Bool) (old new : Slip) : Type 0 where
   pub who : new.who ≡ old.who
   pub pause : new.pause ≡ old.pause
@@ -25,8 +26,9 @@ pub record IsMadeToWait (is_put : Bool) (old new : Slip) : Type 0 where
   pub listed : new.is_listed ≡ true
   pub vain : new.vain ≡ old.vain
 
--- A duty of a list is entered. Who is called now is left as it is, and who pauses keeps its pause: each is called next for the duty. That
--- of another is put at its host, and it waits for a thread.
+-- A duty of a list is recorded. A participant that is being called stays so, and one that pauses
+-- keeps its pause: each is called next for the duty. The duty of any other participant is queued at
+-- its host, and the participant waits for a thread.
 abbrev pub IsEntered : Duration → Duty → Slip → Slip → Turns → Turns → Bool → Type 0
 IsEntered now duty old new before after is_put =
     MatchBool (is_over now old)

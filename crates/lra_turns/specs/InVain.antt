@@ -1,19 +1,20 @@
--- Who is called in vain at a moment, and for how long.
+-- Which participants have failing calls at a moment, and for how long.
 use Rattle.std.specs.Prelude.{◌-◌, ◌∷◌, [], ℕ, Bool, List, Option, None, Some, filter, is_some, length, max}
 use Rattle.std.specs.Duration.{as_nanos}
 use Rattle.std.specs.declared.time.Duration.{Duration}
 use Rattle.lra_turns.specs.declared.plight.Vain.{Vain}
 use Rattle.lra_turns.specs.declared.slip.Slip.{Slip}
 
--- whether somebody is called in vain: its last call was
+-- whether a participant's calls fail: its last call did
 abbrev pub is_in_vain : Slip → Bool
 is_in_vain slip = is_some slip.vain
 
--- how many are
+-- how many participants have failing calls
 abbrev pub count_in_vain : List Slip → ℕ
 count_in_vain slips = length (filter is_in_vain slips)
 
--- how long somebody has been, in nanoseconds: since the first of these calls was over; no time, where its last call wasn't in vain
+-- for how long a participant's calls have failed, in nanoseconds: since the first of them was over;
+-- zero if its last call didn't fail
 abbrev pub time_since : Duration → Option Vain → ℕ
 time_since now None = 0
 time_since now (Some vain) = as_nanos now - as_nanos vain.since
@@ -21,7 +22,7 @@ time_since now (Some vain) = as_nanos now - as_nanos vain.since
 abbrev pub time_in_vain : Duration → Slip → ℕ
 time_in_vain now slip = time_since now slip.vain
 
--- how long the one has been that is so for longest
+-- for how long the calls of the worst participant have failed
 abbrev pub longest_in_vain : Duration → List Slip → ℕ
 longest_in_vain now [] = 0
 longest_in_vain now (slip ∷ slips) = max (time_in_vain now slip) (longest_in_vain now slips)

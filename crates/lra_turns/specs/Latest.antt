@@ -14,8 +14,8 @@ use Rattle.lra_turns.specs.declared.plight.Came.{Came}
 use Rattle.lra_turns.specs.declared.plight.Plight.{Plight}
 use Rattle.lra_turns.specs.declared.slip.Called.{Called}
 
--- A call begins; pauses are over; a call is over; something was heard in it; its participant is busy, or was called in vain; what was
--- heard is entered, or lost
+-- A call begins; pauses are over; a call is over; its answer counted; its participant is busy; it
+-- failed; what was learned is recorded, or lost
 pub data Event : Type 0 where
   Begins : (duty : Duty) → Event
   Resumes : Event
@@ -25,8 +25,9 @@ pub data Event : Type 0 where
   Misses : (duty : Duty) → Event
   Forgets : (who : Called) → Event
 
--- What each does, where these calls have begun since the list. Of a participant something comes only while it is called; and a call for
--- what the list has is one of those.
+-- What each event does, given the calls that have begun since the list. Something happens to a
+-- participant only while it is being called; and a call for what the list has is one of those that
+-- have begun.
 abbrev pub Happens : List Duty → Event → Calling → Calling → Type 0
 Happens begun (Begins duty) old new = IsTakenFrom old new (Some duty)
 Happens begun Resumes old new = NamesNoOther old new [] × ((now : Duration) × (may : Bool) × ResumesAt old.resumes_at now old new may)
@@ -38,7 +39,7 @@ Happens begun (Misses duty) old new =
     × ((came : Came) × (now : Duration) × (plight : Option Plight) × IsMissed (place_of (called_of duty) old.slips) duty came now old new plight)
 Happens begun (Forgets who) old new = IsBeingCalled who old × (new ≡ forgotten who old)
 
--- the calls that have begun once this has happened too
+-- the calls that have begun after this event too
 abbrev pub begun_after : List Duty → Event → List Duty
 begun_after begun (Begins duty) = duty ∷ begun
 begun_after begun Resumes = begun
@@ -52,7 +53,7 @@ abbrev pub begun_in : List Duty → List Event → List Duty
 begun_in begun [] = begun
 begun_in begun (event ∷ events) = begun_in (begun_after begun event) events
 
--- all these happen, one after another
+-- all these events happen, one after another
 abbrev pub Happen : List Duty → List Event → Calling → Calling → Type 0
 Happen begun [] old new = new ≡ old
 Happen begun (event ∷ events) old new = (mid : Calling) × Happens begun event old mid × Happen (begun_after begun event) events mid new

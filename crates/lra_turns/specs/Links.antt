@@ -6,7 +6,7 @@ use Rattle.lra_callback.specs.declared.duty.Duty.{Duty}
 abbrev pub is_slash : ℕ → Bool
 is_slash c = c == 47
 
--- what stands behind the second slash of a link, up to the next
+-- what stands behind the second slash of a link, up to the next slash
 abbrev pub host_in : List ℕ → List ℕ
 host_in link = before_first is_slash (after_first is_slash (after_first is_slash link))
 

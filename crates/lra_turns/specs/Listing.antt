@@ -11,8 +11,8 @@ use Rattle.lra_turns.specs.Turns.{is_kept, recalled, with_hosts}
 use Rattle.lra_turns.specs.declared.slip.Called.{Called}
 use Rattle.lra_turns.specs.declared.slip.Slip.{Slip}
 
--- somebody has a slip at a place: it was there, from a place on, or is new, where there was none
--- from there on
+-- a participant has its slip at this place: the slip was already there, at or behind `from`, or it
+-- is new because there was none from there on
 pub record IsPlacedAt (from : ℕ) (who : Called) (old new : List Slip) (place : ℕ) : Type 0 where
   pub is_its : (slip_at new place).who ≡ who
   pub behind : from ≤ length old → from ≤ place
@@ -22,8 +22,8 @@ abbrev pub IsPlaced : ℕ → Called → List Slip → List Slip → Option ℕ 
 IsPlaced from who old new None = new ≡ old
 IsPlaced from who old new (Some place) = IsPlacedAt from who old new place
 
--- Somebody's slip is brought to a place, where it is in the end. Those before that place are as
--- many of each kind as before, and so are all, but for one that is new.
+-- A participant's slip is moved to a place, and stands there at the end. There are as many slips of
+-- each kind before that place as earlier, and also in all, except for a new one.
 pub record IsBrought (place : ℕ) (who : Called) (old new : List Slip) (is_there : Bool) : Type 0 where
   pub there : IsTrue is_there → (place < length new) × ((slip_at new place).who ≡ who)
   pub room : length old ≤ length new
@@ -31,9 +31,9 @@ pub record IsBrought (place : ℕ) (who : Called) (old new : List Slip) (is_ther
   pub all : ((test : Slip → Bool) → count_by test new ≡ count_by test old)
       ⊎ (((test : Slip → Bool) → count_by test new ≡ count_by test old + cond (test (fresh who)) 1 0) × (slips_of who (take place old) ≡ slips_of who old))
 
--- What putting one duty of a list at a place changes, as to somebody: it has a slip at most where
--- it had, or where the duty is the first for it; who is called is called, and a pause isn't
--- longer. A duty is put at a host for one who waits, and for nobody else.
+-- What placing one duty of a list changes for a given participant. It has slips at most where it
+-- had some, or where the duty is the first for it. If it is being called it stays so, and its pause
+-- doesn't grow. A duty is queued at a host only for a participant that waits.
 pub record PutsOne (now : Duration) (duty : Duty) (place : ℕ) (who : Called) (old new : Calling) (is_put : Bool) : Type 0 where
   pub slips : slips_of who new.slips ≤ max (slips_of who old.slips) (slips_of who (take place old.slips) + duties_for who (duty ∷ []))
   pub first : slips_of who (take (place + cond is_put 1 0) new.slips) ≤ slips_of who (take place old.slips) + duties_for who (duty ∷ [])
@@ -51,10 +51,10 @@ pub record PutsOne (now : Duration) (duty : Duty) (place : ℕ) (who : Called) (
   pub put : IsTrue is_put → 0 < duties_for who (duty ∷ []) → waits_of who old.slips ≡ 0 → calls_of who old.slips ≡ 0 → pauses_of now who old.slips ≡ 0
       → dues_of who old.now.hosts < dues_of who new.now.hosts
 
--- What the duties of a list so far have changed, as to somebody, for whom there are so many in
--- all, of which so many are left: who is called is called, and a pause isn't longer. Where the
--- list has one duty for it, it has one slip, and its duty is put if it may be called and memory
--- was there.
+-- What the duties of a list so far have changed for a given participant, for whom there are `all`
+-- duties in the list, `left` of them still to come. If it is being called it stays so, and its
+-- pause doesn't grow. If the list has one duty for it, it has one slip, and its duty is queued if
+-- it may be called and there was memory.
 pub record PutsSome (now : Duration) (who : Called) (all left : ℕ) (old new : Calling) (is_whole : Bool) : Type 0 where
   pub few : left ≤ all
   pub slips : all ≤ 1 → slips_of who old.slips ≤ 1 → slips_of who new.slips ≤ 1
@@ -71,10 +71,10 @@ pub record PutsSome (now : Duration) (who : Called) (all left : ℕ) (old new : 
   pub put : IsTrue is_whole → all ≤ 1 → left < all → waits_of who old.slips ≡ 0 → calls_of who old.slips ≡ 0 → pauses_of now who old.slips ≡ 0
       → dues_of who old.now.hosts < dues_of who new.now.hosts
 
--- all are taken back that no thread has begun with
+-- all duties that no thread has begun are taken back
 abbrev pub recalled_all : Calling → Calling
 recalled_all calling = record { now = with_hosts (map recalled calling.now.hosts) calling.now; slips = map taken_back calling.slips; resumes_at = calling.resumes_at }
 
--- those that a list leaves: who is on it or is called, and the hosts of those
+-- what a list leaves: the participants that are on it or being called, and their hosts
 abbrev pub remembered : Calling → Calling
 remembered calling = record { now = with_hosts (filter is_kept calling.now.hosts) calling.now; slips = filter is_remembered calling.slips; resumes_at = calling.resumes_at }

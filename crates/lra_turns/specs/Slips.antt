@@ -1,4 +1,4 @@
--- Who is called, and what is remembered of each.
+-- Which participants are called, and what is remembered of each.
 use Rattle.std.specs.Prelude.{◌≡◌, ◌*◌, ◌==◌, ◌&&◌, ℕ, Bool, true, false, List, Option, None, Some, filter, if◌then◌else◌, max, min, nat_le, not}
 use Rattle.std.specs.List.{position_from}
 use Rattle.std.specs.Duration.{as_nanos}
@@ -16,7 +16,7 @@ abbrev pub is_after : Kind → Bool
 is_after After = true
 is_after _ = false
 
--- who is called for a duty: the participant, and whether it is told of the end
+-- whom a duty calls: the participant, and whether it is notified of the end
 abbrev pub called_of : Duty → Called
 called_of duty = record { id = duty.id; member = duty.member; of_end = is_after duty.kind }
 
@@ -39,11 +39,11 @@ is_called_in _ = false
 abbrev pub waits : Slip → Bool
 waits slip = waits_in slip.stand
 
--- whether it is called now, or what was heard of it isn't entered yet
+-- whether it is being called, or what its answer means isn't recorded yet
 abbrev pub is_called : Slip → Bool
 is_called slip = is_called_in slip.stand
 
--- whether it pauses, and may be called again at this moment
+-- whether its pause is over at this moment, so that it may be called again
 abbrev pub is_over_in : Duration → Stand → Bool
 is_over_in now (Pauses until) = nat_le (as_nanos until) (as_nanos now)
 is_over_in now _ = false
@@ -51,7 +51,7 @@ is_over_in now _ = false
 abbrev pub is_over : Duration → Slip → Bool
 is_over now slip = is_over_in now slip.stand
 
--- whether it pauses, and may not be called yet at this moment
+-- whether it still pauses at this moment, so that it may not be called yet
 abbrev pub pauses_in : Duration → Stand → Bool
 pauses_in now (Pauses until) = not (nat_le (as_nanos until) (as_nanos now))
 pauses_in now _ = false
@@ -59,15 +59,15 @@ pauses_in now _ = false
 abbrev pub pauses : Duration → Slip → Bool
 pauses now slip = pauses_in now slip.stand
 
--- a pause that is over at each moment
+-- the end of a pause that is over at every moment
 abbrev pub at_once : Duration
 at_once = record { secs = 0; nanos = 0 }
 
--- one that may be called at once
+-- a participant that may be called at once
 abbrev pub fresh : Called → Slip
 fresh who = record { who = who; pause = 0; stand = Pauses at_once; kept = None; is_listed = false; vain = None }
 
--- one that waits for a thread, or, where there was no memory for that, for the next list
+-- a participant that waits for a thread or, if memory for that ran out, for the next list
 abbrev pub waits_if : Bool → Stand
 waits_if true = Waits
 waits_if false = Pauses at_once
@@ -75,7 +75,7 @@ waits_if false = Pauses at_once
 abbrev pub made_to_wait : Bool → Slip → Slip
 made_to_wait is_put slip = record { who = slip.who; pause = slip.pause; stand = waits_if is_put; kept = None; is_listed = slip.is_listed; vain = slip.vain }
 
--- one that no longer waits for a thread, and isn't on the list; for nothing is it to be called
+-- a participant that no longer waits for a thread, and isn't on the list; no duty is kept for it
 abbrev pub back : Stand → Stand
 back Waits = Pauses at_once
 back IsCalled = IsCalled
@@ -84,28 +84,29 @@ back (Pauses until) = Pauses until
 abbrev pub taken_back : Slip → Slip
 taken_back slip = record { who = slip.who; pause = slip.pause; stand = back slip.stand; kept = None; is_listed = false; vain = slip.vain }
 
--- whether it is remembered behind a list: it is on it, or is called
+-- whether it is still remembered after a list: it is on it, or is being called
 abbrev pub is_remembered : Slip → Bool
 is_remembered slip = if slip.is_listed then true else is_called slip
 
--- where it stands now
+-- a slip in this state
 abbrev pub standing : Stand → Slip → Slip
 standing stand slip = record { who = slip.who; pause = slip.pause; stand = stand; kept = slip.kept; is_listed = slip.is_listed; vain = slip.vain }
 
--- one to whom a call begins, and the others as they were
+-- the participant to whom a call begins, and the others as they were
 abbrev pub begun_to : Called → Slip → Slip
 begun_to who slip = if same_called slip.who who then standing IsCalled slip else slip
 
--- when it may be called again; none while it waits or is called
+-- when it may be called again; none while it waits or is being called
 abbrev pub until_in : Stand → Option Duration
 until_in (Pauses until) = Some until
 until_in _ = None
 
--- the pause after one of so many milliseconds: twice as long, and between a quarter of a second and half a minute
+-- the pause after one of this many milliseconds: twice as long, within a quarter of a second and
+-- half a minute
 abbrev pub next_pause : ℕ → ℕ
 next_pause pause = min (max (2 * pause) 250) 30_000
 
--- one that pauses until a moment, longer than the last time
+-- a participant pauses until a moment, longer than the last time
 pub record IsPaused (until : Duration) (old new : Slip) : Type 0 where
   pub who : new.who ≡ old.who
   pub pause : new.pause ≡ next_pause old.pause
@@ -114,7 +115,8 @@ pub record IsPaused (until : Duration) (old new : Slip) : Type 0 where
   pub listed : new.is_listed ≡ old.is_listed
   pub vain : new.vain ≡ old.vain
 
--- one that no longer waits for a thread, isn't on the list, and is to be called for nothing; who is called is called
+-- a participant that no longer waits for a thread, isn't on the list, and is to be called for
+-- nothing; if it is being called it stays so
 pub record IsRecalled (old new : Slip) : Type 0 where
   pub who : new.who ≡ old.who
   pub pause : new.pause ≡ old.pause
@@ -124,10 +126,10 @@ pub record IsRecalled (old new : Slip) : Type 0 where
   pub listed : new.is_listed ≡ false
   pub vain : new.vain ≡ old.vain
 
--- those that are left where one is forgotten
+-- the slips that are left if a participant is forgotten
 abbrev pub without : Called → List Slip → List Slip
 without who slips = filter (λ (slip : Slip). not (same_called slip.who who)) slips
 
--- the place of the first slip of somebody, if there is one
+-- the place of a participant's first slip, if there is one
 abbrev pub place_of : Called → List Slip → Option ℕ
 place_of who slips = position_from (λ (slip : Slip). same_called slip.who who) 0 slips

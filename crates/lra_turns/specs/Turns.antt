@@ -8,8 +8,9 @@ use Rattle.lra_turns.specs.declared.host.Busy.{Busy}
 use Rattle.lra_turns.specs.declared.pace.Pace.{Pace}
 use Rattle.lra_turns.specs.declared.pace.Pace.TheVariants.{Hanging, Quick, Refusing, Slow, Unknown}
 
--- a host: its name, whom a thread is to call there, in order, how many calls go on, how it answered the last, the number of the turn
--- at which its last call began or at which it came, and whether somebody there was to be called when that was last asked
+-- a host: its name, the duties queued there, in order, how many calls are under way, how it
+-- answered the last one, the number of the turn at which its last call began or at which it came,
+-- and whether the last list had a participant there
 pub record AtHost : Type 0 where
   pub name : List ℕ
   pub due : List Duty
@@ -18,20 +19,21 @@ pub record AtHost : Type 0 where
   pub turn : ℕ
   pub is_listed : Bool
 
--- the hosts, how many turns there were, and whether the next is the newest host's, if one was never called
+-- the hosts, how many turns there were, and whether the next belongs to the newest host, if one was
+-- never called
 pub record Turns : Type 0 where
   pub hosts : List AtHost
   pub turns : ℕ
   pub is_for_new : Bool
 
--- no host, where there is none at a place
+-- an empty host, for a place without one
 abbrev pub nowhere : AtHost
 nowhere = record { name = []; due = []; calls = 0; pace = Unknown; turn = 0; is_listed = false }
 
 abbrev pub host_at : List AtHost → ℕ → AtHost
 host_at hosts place = slice_index_or hosts place nowhere
 
--- how many calls to a host may go on at once: two, if its last one was heard quickly
+-- how many calls to a host may be under way at once: two, if its last one was heard quickly
 abbrev pub share : Pace → ℕ
 share Quick = 2
 share Unknown = 1
@@ -67,11 +69,11 @@ is_unknown Slow = false
 is_unknown Refusing = false
 is_unknown Hanging = false
 
--- whether somebody waits there to be called
+-- whether a duty is queued there
 abbrev pub is_due : AtHost → Bool
 is_due host = nat_lt 0 (length host.due)
 
--- whether a call to it goes on, and it is slow; or its last call hung; or it isn't quick
+-- whether a call to it is under way, and it is slow; or its last call hung; or it isn't quick
 abbrev pub is_called_slowly : AtHost → Bool
 is_called_slowly host = if is_slow host.pace then nat_lt 0 host.calls else false
 
@@ -81,7 +83,8 @@ is_called_as_hanging host = if is_hanging host.pace then nat_lt 0 host.calls els
 abbrev pub is_called_unsurely : AtHost → Bool
 is_called_unsurely host = if is_quick host.pace then false else nat_lt 0 host.calls
 
--- how many calls go on to slow hosts, to those that hang, and to all that aren't quick: to each of them there is one at most
+-- how many calls are under way to slow hosts, to hanging hosts, and to all that aren't quick: at
+-- most one to each of them
 abbrev pub slow_calls : List AtHost → ℕ
 slow_calls hosts = length (filter is_called_slowly hosts)
 
@@ -91,13 +94,14 @@ hanging_calls hosts = length (filter is_called_as_hanging hosts)
 abbrev pub unsure_calls : List AtHost → ℕ
 unsure_calls hosts = length (filter is_called_unsurely hosts)
 
--- how many calls go on to hosts that may hold a thread for long
+-- how many calls are under way to hosts that may hold a thread for long
 abbrev pub busy_with : List AtHost → Busy
 busy_with hosts = record { unsure = unsure_calls hosts; slow = slow_calls hosts; hanging = hanging_calls hosts }
 
--- whether beside these a call may begin to a host that answered so: to a quick one always; to another if with it three at most go on to
--- hosts that aren't quick. Beside that, to a slow one if two at most go on to slow ones, and to one that hangs if two at most go on to
--- such
+-- whether a call may begin beside these to a host of this pace. To a quick one always. To any other
+-- only if, with this call, at most three calls to hosts that aren't quick are under way; in
+-- addition, to a slow one only if at most two to slow hosts are, and to a hanging one only if at
+-- most two to hanging hosts are
 abbrev pub has_room : Busy → Pace → Bool
 has_room busy Quick = true
 has_room busy Unknown = nat_lt busy.unsure 3
@@ -105,29 +109,32 @@ has_room busy Slow = if nat_lt busy.slow 2 then nat_lt busy.unsure 3 else false
 has_room busy Refusing = nat_lt busy.unsure 3
 has_room busy Hanging = if nat_lt busy.hanging 2 then nat_lt busy.unsure 3 else false
 
--- whether a thread may call there, while these calls go on: somebody is to be called, it has less than its share, and there is room
+-- whether a thread may call there while these calls are under way: a duty is queued, fewer calls
+-- than its share are under way, and there is room
 abbrev pub may_be_called : Busy → AtHost → Bool
 may_be_called busy host = if nat_lt host.calls (share host.pace) then (if has_room busy host.pace then is_due host else false) else false
 
--- whether it was never called, and is to be
+-- whether it was never called, and has a duty queued
 abbrev pub is_new : AtHost → Bool
 is_new host = if is_unknown host.pace then (if host.calls == 0 then is_due host else false) else false
 
--- whether its turn is before another's: one that isn't called now goes first, and then the one whose last call began longest ago
+-- whether its turn comes before another's: a host that isn't being called goes first, and then the
+-- one whose last call began longest ago
 abbrev pub is_before : AtHost → AtHost → Bool
 is_before host other = if host.calls == 0 then (if other.calls == 0 then nat_lt host.turn other.turn else true) else (if other.calls == 0 then false else nat_lt host.turn other.turn)
 
--- whether it came later than another
+-- whether it came later than another host
 abbrev pub is_newer : AtHost → AtHost → Bool
 is_newer host other = nat_lt other.turn host.turn
 
--- of the first so many hosts, the one at this place may be chosen, and none that may be goes before it
+-- of the first `count` hosts, the one at this place may be chosen, and no other that may be chosen
+-- goes before it
 pub record IsChosen (count : ℕ) (may : AtHost → Bool) (before : AtHost → AtHost → Bool) (hosts : List AtHost) (place : ℕ) : Type 0 where
   pub within : place < count
   pub may_be : may (host_at hosts place) ≡ true
   pub first : (k : ℕ) → k < count → may (host_at hosts k) ≡ true → before (host_at hosts k) (host_at hosts place) ≡ false
 
--- the place of the one that is chosen of the first so many; none, where none of them may be
+-- the place of the host that is chosen of the first `count`; none if none of them may be
 abbrev pub IsFirstOf : ℕ → (AtHost → Bool) → (AtHost → AtHost → Bool) → List AtHost → Option ℕ → Type 0
 IsFirstOf count may before hosts None = (k : ℕ) → k < count → may (host_at hosts k) ≡ false
 IsFirstOf count may before hosts (Some place) = IsChosen count may before hosts place
@@ -140,17 +147,18 @@ IsLongest hosts place = IsFirstOf (length hosts) (may_be_called (busy_with hosts
 abbrev pub IsNewest : List AtHost → Option ℕ → Type 0
 IsNewest hosts place = IsFirstOf (length hosts) is_new is_newer hosts place
 
--- that place, where it is the newest host's turn
+-- that place, if it is the newest host's turn
 abbrev pub IsNewestNow : Bool → List AtHost → Option ℕ → Type 0
 IsNewestNow false hosts place = place ≡ None
 IsNewestNow true hosts place = IsNewest hosts place
 
--- this place, or where there is none, that of the host that has waited longest
+-- this place or, if there is none, that of the host that has waited longest
 abbrev pub IsThatElseLongest : Option ℕ → List AtHost → Option ℕ → Type 0
 IsThatElseLongest None hosts place = IsLongest hosts place
 IsThatElseLongest (Some that) hosts place = place ≡ Some that
 
--- whether it is the newest host's turn, if one was never called: each second turn is, where there is room for a call to such a host
+-- whether it is the newest host's turn, if one was never called: every second turn is, if there is
+-- room for a call to such a host
 abbrev pub is_newest_turn : Turns → Bool
 is_newest_turn now = if now.is_for_new then has_room (busy_with now.hosts) Unknown else false
 
@@ -158,27 +166,28 @@ is_newest_turn now = if now.is_for_new then has_room (busy_with now.hosts) Unkno
 abbrev pub IsNext : Turns → Option ℕ → Type 0
 IsNext now place = (newest : Option ℕ) × IsNewestNow (is_newest_turn now) now.hosts newest × IsThatElseLongest newest now.hosts place
 
--- whether a host may be called, which is one that is called next
+-- whether some host may be called: one that would be called next
 abbrev pub MayTake : Turns → Bool → Type 0
 MayTake now may = (place : Option ℕ) × IsNext now place × (may ≡ is_some place)
 
--- at this turn a call begins to the first who waits at a host
+-- at this turn the call for the first duty in a host's queue begins
 pub record Begins (turn : ℕ) (duty : Duty) (old new : AtHost) : Type 0 where
   pub first : old.due ≡ duty ∷ new.due
   pub rest : new ≡ record { name = old.name; due = new.due; calls = old.calls + 1; pace = old.pace; turn = turn; is_listed = old.is_listed }
 
--- the number of the next turn: they are counted up to 2^64 - 1
+-- the number of the next turn: turns are counted up to 2^64 - 1
 abbrev pub next_turn : ℕ → ℕ
 next_turn turn = min (turn + 1) (2 ^ 64 - 1)
 
--- a call begins to the first who waits at the host at this place, and nothing else changes
+-- the call for the first duty queued at the host at this place begins, and nothing else changes
 pub record BeginsAt (place : ℕ) (duty : Duty) (old new : Turns) : Type 0 where
   pub begins : Begins (next_turn old.turns) duty (host_at old.hosts place) (host_at new.hosts place)
   pub others : new.hosts ≡ slice_set old.hosts place (host_at new.hosts place)
   pub turns : new.turns ≡ next_turn old.turns
   pub for_new : new.is_for_new ≡ not old.is_for_new
 
--- what is taken: the duty of the first who waits at the host that is called next; none, where no host may be called
+-- what is taken: the first duty queued at the host that is called next; none if no host may be
+-- called
 abbrev pub IsTaken : Turns → Turns → Option Duty → Type 0
 IsTaken old new None = IsNext old None × (new ≡ old)
 IsTaken old new (Some duty) = (place : ℕ) × IsNext old (Some place) × BeginsAt place duty old new
@@ -191,27 +200,27 @@ is_host_of duty host = bytes_eq host.name (host_of duty)
 abbrev pub place_of : Duty → List AtHost → Option ℕ
 place_of duty hosts = position_from (is_host_of duty) 0 hosts
 
--- a host at which somebody is to be called later
+-- a host with a participant that is to be called later
 abbrev pub listed : AtHost → AtHost
 listed host = record { name = host.name; due = host.due; calls = host.calls; pace = host.pace; turn = host.turn; is_listed = true }
 
--- a host at which one more waits, behind the others
+-- a host with one more duty, behind the others
 abbrev pub with_due : Duty → AtHost → AtHost
 with_due duty host = record { name = host.name; due = host.due ++ duty ∷ []; calls = host.calls; pace = host.pace; turn = host.turn; is_listed = true }
 
--- a host of which a call is over, that was answered so
+-- a host of which a call is over that was answered in this way
 abbrev pub with_end : Pace → AtHost → AtHost
 with_end pace host = record { name = host.name; due = host.due; calls = host.calls - 1; pace = pace; turn = host.turn; is_listed = host.is_listed }
 
--- a host from which those are taken back that no thread has begun with
+-- a host from which the duties are taken back that no thread has begun
 abbrev pub recalled : AtHost → AtHost
 recalled host = record { name = host.name; due = []; calls = host.calls; pace = host.pace; turn = host.turn; is_listed = false }
 
--- whether somebody is to be called there, or is called
+-- whether a participant there is to be called, or is being called
 abbrev pub is_kept : AtHost → Bool
 is_kept host = if host.is_listed then true else nat_lt 0 host.calls
 
--- a host that has come at this turn, with the first who waits there
+-- a host that has come at this turn, with its first duty
 abbrev pub newcomer : Duty → ℕ → AtHost
 newcomer duty turn = record { name = host_of duty; due = duty ∷ []; calls = 0; pace = Unknown; turn = turn; is_listed = true }
 
@@ -224,7 +233,8 @@ changed_at (Some place) change hosts = slice_set hosts place (change (host_at ho
 abbrev pub with_hosts : List AtHost → Turns → Turns
 with_hosts hosts now = record { hosts = hosts; turns = now.turns; is_for_new = now.is_for_new }
 
--- a duty is put last at its host, which comes if it isn't known; for want of memory it isn't put
+-- a duty is queued at its host behind the others; the host is added if it isn't known; if memory
+-- runs out the duty isn't queued
 abbrev pub IsPutAt : Option ℕ → Duty → Turns → Turns → Bool → Type 0
 IsPutAt (Some place) duty old new true = new ≡ with_hosts (changed_at (Some place) (with_due duty) old.hosts) old
 IsPutAt (Some place) duty old new false = new ≡ with_hosts (changed_at (Some place) listed old.hosts) old

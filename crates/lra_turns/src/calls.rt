@@ -1,4 +1,5 @@
-// Whom the threads that call are to call, whom they call, and whom only after a pause.
+// Schedules callbacks: which participants wait for a caller thread, which are being called, and
+// which pause before they are called again.
 ghost use Rattle.std.specs.Prelude.{◌≡◌, ◌<◌, ◌≤◌, ◌↔◌, ◌∷◌, [], Bool, IfSome, IsTrue, None, false, filter, length, map};
 ghost use Rattle.std.specs.Duration.{as_nanos};
 ghost use Rattle.std.specs.List.{list_any};
@@ -28,8 +29,9 @@ use std::alloc::Global;
 use std::marker::Model;
 use std::time::Duration;
 
-/// Enters a duty of a list. Of one who is called now, or pauses still, the duty is kept: it is called for that next. Another waits for a
-/// thread from now on, with the duty put at its host. It says whether there was memory for that.
+/// Records a duty of a list. If the participant is being called or still pauses, the duty is kept:
+/// the participant is called for it next. Otherwise the duty is queued at its host, and the
+/// participant waits for a thread from now on. Returns false if memory ran out.
 fn enter(slip: &mut Slip, hosts: &mut Hosts, duty: Duty, now: Duration) -> bool
     ensures entered { IsEntered now duty slip.old slip.new hosts.old hosts.new result }
     ensures named { (test : Duty → Bool) → Passes test duty → IsKept test slip.old → AllWaiting test hosts.old.hosts →
@@ -46,7 +48,7 @@ fn enter(slip: &mut Slip, hosts: &mut Hosts, duty: Duty, now: Duration) -> bool
     is_put
 }
 
-/// The earlier of two moments, if there are two.
+/// Returns the earlier of two moments, or the only one.
 fn earlier(one: Option<Duration>, other: Duration) -> Duration
     ensures { result ≡ earlier one other }
 {
@@ -62,7 +64,8 @@ fn earlier(one: Option<Duration>, other: Duration) -> Duration
     }
 }
 
-/// Has one wait for a thread whose pause is over. It gives when the next pause is, of this one and of those before.
+/// Queues a participant for the next free caller thread if its pause is over. Returns when the next
+/// pause ends, of this participant and those before.
 fn resume_one(
     slip: &mut Slip,
     hosts: &mut Hosts,
@@ -85,7 +88,7 @@ fn resume_one(
     }
 }
 
-/// Has those wait for a thread whose pause is over. It gives when the next pause is.
+/// Queues each participant whose pause is over, and returns when the next pause ends.
 fn resume_all(slips: &mut [Slip], hosts: &mut Hosts, now: Duration) -> Option<Duration>
     ensures resumed { ResumesAll now slips.old slips.new hosts.old.hosts hosts.new.hosts }
     ensures next { IsFirstPause now (length slips.old) slips.old result }
@@ -99,7 +102,7 @@ fn resume_all(slips: &mut [Slip], hosts: &mut Hosts, now: Duration) -> Option<Du
     next
 }
 
-/// Takes back those that wait for a thread.
+/// Takes back all participants that wait for a thread.
 fn recall_each(slips: &mut [Slip])
     ensures exact { slips.new ≡ map taken_back slips.old }
     ensures kept { (test : Duty → Bool) → AllKept test slips.old → AllKept test slips.new }
@@ -109,7 +112,7 @@ fn recall_each(slips: &mut [Slip])
     }
 }
 
-/// Forgets who is not on the list, unless it is called now.
+/// Forgets each participant that is not on the list, unless it is being called.
 fn forget_unlisted(slips: &mut Vec<Slip>)
     ensures exact { slips.new.items ≡ filter is_remembered slips.old.items }
     ensures kept { (test : Duty → Bool) → AllKept test slips.old.items → AllKept test slips.new.items }
@@ -117,7 +120,8 @@ fn forget_unlisted(slips: &mut Vec<Slip>)
     slips.retain(|slip| slip.is_listed || slip.is_called());
 }
 
-/// The place of somebody's slip, from a place on, or of a new one; none where there is no memory for that.
+/// Returns the place of a participant's slip at or behind `from`, or of a new slip if there is
+/// none. Returns `None` if memory ran out.
 fn place_or_new(slips: &mut Vec<Slip>, from: usize, who: Called) -> Option<usize>
     ensures kept { (test : Duty → Bool) → AllKept test slips.old.items → AllKept test slips.new.items }
     ensures within { IfSome result (λ place. place < length slips.new.items) }
@@ -133,7 +137,7 @@ fn place_or_new(slips: &mut Vec<Slip>, from: usize, who: Called) -> Option<usize
     }
 }
 
-/// Brings somebody's slip to a place of the list. It says whether there was memory for that.
+/// Moves a participant's slip to a place of the list. Returns false if memory ran out.
 fn bring(slips: &mut Vec<Slip>, place: usize, who: Called) -> bool
     ensures kept { (test : Duty → Bool) → AllKept test slips.old.items → AllKept test slips.new.items }
     ensures within { IsTrue result → place < length slips.new.items }
@@ -149,16 +153,17 @@ fn bring(slips: &mut Vec<Slip>, place: usize, who: Called) -> bool
     true
 }
 
-/// Whom the threads are to call. The list of all that are due is asked for once something may have changed it; who is to be called
-/// again is called after a pause, without another list.
+/// The participants that the caller threads are to call. The full list of due calls is asked for
+/// only when something may have changed it; a participant that is to be called again is called
+/// after a pause, without another list.
 #[derive(Drop)]
 pub struct Calls {
     alloc: Global,
     hosts: Hosts,
-    /// In the order of the last list, as far as they stand there: so one pass over slips and list
-    /// finds nearly each at once.
+    /// In the order of the last list, as far as they are on it. So one pass over slips and list
+    /// finds nearly every slip at once.
     slips: Vec<Slip>,
-    /// When a pause is over at the earliest.
+    /// When the first pause ends.
     resumes_at: Option<Duration>,
 }
 
@@ -186,35 +191,35 @@ impl Calls {
         }
     }
 
-    /// Whether nobody is to be called, is called, or pauses.
+    /// Whether no participant is to be called, is being called, or pauses.
     pub fn is_empty(&self) -> bool
         ensures { IsTrue result ↔ (self.now.slips ≡ []) }
     {
         self.slips.is_empty()
     }
 
-    /// How many are to be called, are called, or pause.
+    /// Returns the number of participants that are to be called, are being called, or pause.
     pub fn len(&self) -> usize
         ensures { result ≡ length self.now.slips }
     {
         self.slips.len()
     }
 
-    /// Whether somebody waits for a thread.
+    /// Whether some participant waits for a thread.
     pub fn is_any_due(&self) -> bool
         ensures { result ≡ list_any is_due self.now.now.hosts }
     {
         self.hosts.is_any_due()
     }
 
-    /// Whether a thread may call somebody now.
+    /// Whether a thread may call some participant now.
     pub fn may_take(&self) -> bool
         ensures { MayTake self.now.now result }
     {
         self.hosts.may_take()
     }
 
-    /// The duty that is called for next, if one may be. Its call counts as begun.
+    /// Takes the duty to call for next, if a call may begin. Its call counts as begun.
     pub fn take(&mut self) -> Option<Due>
         ensures { IsTakenFrom self.old self.new result }
     {
@@ -223,7 +228,8 @@ impl Calls {
         Some(Due::new(duty))
     }
 
-    /// Puts the duty at a place of the list, where its slip goes too. It says whether there was memory for that.
+    /// Places a duty at a position of the list and moves its participant's slip there. Returns
+    /// false if memory ran out.
     fn put_at(&mut self, place: usize, duty: Duty, now: Duration) -> bool
         ensures named { NamesNoOther self.old self.new (duty ∷ []) }
         ensures puts { (who : TheCalled) → place ≤ length self.old.slips →
@@ -235,7 +241,7 @@ impl Calls {
         enter(&mut self.slips[place], &mut self.hosts, duty, now)
     }
 
-    /// Takes back all duties that no thread has begun with.
+    /// Takes back all duties that no thread has begun.
     fn recall(&mut self)
         ensures named { NamesNoOther self.old self.new [] }
         ensures exact { self.new ≡ recalled_all self.old }
@@ -244,7 +250,8 @@ impl Calls {
         recall_each(&mut self.slips);
     }
 
-    /// Puts duties at the first places of the list, in their order. It says whether there was memory for all.
+    /// Places duties at the first positions of the list, in their order. Returns false if memory
+    /// ran out for one.
     fn put_each(&mut self, duties: Vec<Duty>, now: Duration) -> bool
         ensures named { NamesNoOther self.old self.new duties.items }
         ensures puts { (who : TheCalled) →
@@ -261,7 +268,8 @@ impl Calls {
         is_whole
     }
 
-    /// Forgets who is no longer on the list, unless it is called now, and the hosts of those.
+    /// Forgets each participant that is no longer on the list, unless it is being called, and the
+    /// hosts of those that are forgotten.
     fn forget_others(&mut self)
         ensures named { NamesNoOther self.old self.new [] }
         ensures exact { self.new ≡ remembered self.old }
@@ -270,8 +278,9 @@ impl Calls {
         self.hosts.forget();
     }
 
-    /// Puts all that are due, in the order of the list, in place of those that no thread has begun with. Who is no longer among them is
-    /// forgotten, unless it is called now: that is forgotten once its call came to nothing. It says whether there was memory for all.
+    /// Queues all due calls, in the order of the list, in place of those that no thread has begun.
+    /// A participant that is no longer among them is forgotten, unless it is being called: then it
+    /// is forgotten when its call fails. Returns false if memory ran out for one.
     pub fn put_all(&mut self, duties: Vec<Duty>, now: Duration) -> bool
         ensures named { NamesNoOther self.old self.new duties.items }
         ensures once { NamesNobodyTwice duties.items →
@@ -291,7 +300,8 @@ impl Calls {
         is_whole
     }
 
-    /// Has those wait for a thread whose pause is over by now, and says whether somebody may be called.
+    /// Queues each participant whose pause is over by now, and returns whether some participant may
+    /// be called.
     pub fn resume(&mut self, now: Duration) -> bool
         ensures named { NamesNoOther self.old self.new [] }
         ensures resumed { ResumesAt self.old.resumes_at now self.old self.new result }
@@ -306,21 +316,21 @@ impl Calls {
         self.hosts.may_take()
     }
 
-    /// When the first pause is over, or the moment that is given, if that comes before.
+    /// Returns when the first pause ends, or the given moment if that is earlier.
     pub fn resumes_by(&self, moment: Duration) -> Duration
         ensures { result ≡ earlier self.now.resumes_at moment }
     {
         earlier(self.resumes_at, moment)
     }
 
-    /// Counts a call that is over, and how its host answered.
+    /// Counts a call that is over, and records how its host answered.
     pub fn end(&mut self, duty: &Duty, pace: Pace)
         ensures { self.new ≡ record { now = with_hosts (changed_at (host_place duty.now self.old.now.hosts) (with_end pace) self.old.now.hosts) self.old.now; slips = self.old.slips; resumes_at = self.old.resumes_at } }
     {
         self.hosts.end(duty, pace);
     }
 
-    /// Notes that a pause is over at this moment.
+    /// Records that a pause ends at this moment.
     fn resume_by(&mut self, until: Duration)
         ensures hosts { self.new.now ≡ self.old.now }
         ensures slips { self.new.slips ≡ self.old.slips }
@@ -329,8 +339,8 @@ impl Calls {
         self.resumes_at = Some(self.resumes_by(until));
     }
 
-    /// Has a participant that is busy wait before it is called again, each time longer, for what the next list has. It was no call in
-    /// vain.
+    /// Pauses a participant that is busy before it is called again, each time for longer, for
+    /// whatever the next list has. Its call doesn't count as failed.
     pub fn pause(&mut self, who: Called, now: Duration)
         ensures named { NamesNoOther self.old self.new [] }
         ensures busy { IsBusyAt (place_of who self.old.slips) now self.old self.new }
@@ -345,9 +355,11 @@ impl Calls {
         self.resume_by(until);
     }
 
-    /// Has a participant wait before it is called again, each time longer: the call for this duty came to nothing. It is called next for
-    /// what a list has brought meanwhile, or else for this again; where the last list doesn't name it, it is forgotten. It gives what is
-    /// to be told of such calls: once a minute has passed since the first in a row, and again each ten minutes.
+    /// Pauses a participant whose call for this duty failed before it is called again, each time
+    /// for longer. It is called next for what a list has brought meanwhile, or otherwise for this
+    /// duty again. If the last list doesn't name it, it is forgotten. Returns what is to be logged
+    /// of such calls: once a minute has passed since the first failed call in a row, and again
+    /// every ten minutes.
     pub fn vain(&mut self, due: Due, came: Came, now: Duration) -> Option<Plight>
         ensures named { NamesNoOther self.old self.new (due ∷ []) }
         ensures missed { IsMissed (place_of (called_of due) self.old.slips) due came now
@@ -366,7 +378,8 @@ impl Calls {
         plight
     }
 
-    /// Ends the count of the calls in vain, since something was heard. It gives what is to be told of that, if they were told.
+    /// Ends the count of a participant's failed calls, because its answer counted. Returns what is
+    /// to be logged of that, if the failed calls were logged.
     pub fn heard(&mut self, duty: &Duty, now: Duration) -> Option<Plight>
         ensures named { NamesNoOther self.old self.new [] }
         ensures found { IsFound (place_of (called_of duty.now) self.old.slips) duty.now now
@@ -377,7 +390,7 @@ impl Calls {
         vain.tell_end(self.alloc, duty, now)
     }
 
-    /// How somebody was called in vain, if its last call was.
+    /// Returns the failed calls of a participant, if its last call failed.
     pub fn vain_of(&self, who: &Called) -> Option<Vain>
         ensures { result ≡ vain_of who.now self.now.slips }
     {
@@ -385,8 +398,8 @@ impl Calls {
         self.slips[place].vain
     }
 
-    /// How many are called in vain now, and how long the one has been that is so for longest: its last calls came to nothing, and the first
-    /// of them was over so long ago.
+    /// Returns how many participants have failing calls now, and for how long the worst of them
+    /// has: the time since its first failed call in a row was over.
     pub fn in_vain(&self, now: Duration) -> (u64, Duration)
         ensures count { result.0 ≡ count_in_vain self.now.slips }
         ensures longest { as_nanos result.1 ≡ longest_in_vain now self.now.slips }
@@ -397,7 +410,8 @@ impl Calls {
         )
     }
 
-    /// When somebody is called next; none while it waits for a thread or is called, or if nothing is remembered of it.
+    /// Returns when a participant is called next; `None` while it waits for a thread or is being
+    /// called, or if nothing is remembered of it.
     pub fn next_of(&self, who: &Called) -> Option<Duration>
         ensures { result ≡ next_of who.now self.now.slips }
     {

@@ -1,4 +1,4 @@
-// A host at which participants are called, and whom to call there.
+// A host at which participants are called, with the duties that are queued there.
 ghost use Rattle.std.specs.Prelude.{◌≡◌, ◌<◌, [], IfNone, IfSome, if◌then◌else◌};
 ghost use Rattle.std.specs.List.{after_first};
 ghost use Rattle.std.specs.Str.{bytes_eq};
@@ -12,17 +12,19 @@ use std::alloc::Global;
 use std::collections::VecDeque;
 use std::marker::Model;
 
-/// How many calls to slow hosts may go on at once: the other threads are left to those that answer at once.
+/// How many calls to slow hosts may be under way at once. The other threads are left to hosts that
+/// answer at once.
 const MAX_SLOW: usize = 2;
 
-/// How many calls to hosts that hang may go on at once: a slow host that is heard waits for none of these.
+/// How many calls to hanging hosts may be under way at once. A slow host that does answer waits for
+/// none of these.
 const MAX_HANGING: usize = 2;
 
-/// How many calls may go on at once to hosts that aren't quick. So of four threads one is always left to those that were heard quickly,
-/// whoever else never answers.
+/// How many calls may be under way at once to hosts that aren't quick. So, of four threads, one is
+/// always left to hosts that answered quickly, whichever other hosts never answer.
 const MAX_UNSURE: usize = 3;
 
-/// What stands behind the first slash.
+/// Returns what stands behind the first slash.
 fn past_slash(text: &str) -> &str
     ensures { result.now ≡ after_first is_slash text.now }
 {
@@ -32,7 +34,7 @@ fn past_slash(text: &str) -> &str
     }
 }
 
-/// What stands behind the second slash of a link, up to the next.
+/// Returns what stands behind the second slash of a link, up to the next slash.
 fn host_in(link: &str) -> &str
     ensures { result.now ≡ host_in link.now }
 {
@@ -43,14 +45,15 @@ fn host_in(link: &str) -> &str
     }
 }
 
-/// The host at which a duty's participant is called, with its port.
+/// Returns the host at which a duty's participant is called, with its port.
 pub(crate) fn host_of(duty: &Duty) -> &str
     ensures { result.now ≡ host_of duty.now }
 {
     host_in(duty.link.as_str())
 }
 
-/// A number made of a name: names with other numbers are others, so that few have to be compared.
+/// Returns a number made from a name. Names with different numbers are different, so that few names
+/// have to be compared.
 pub(crate) fn key_of(name: &str) -> u64
     ensures { result ≡ key_of name.now }
 {
@@ -62,7 +65,7 @@ pub(crate) fn key_of(name: &str) -> u64
     key
 }
 
-/// How many calls to a host may go on at once: two to a quick one.
+/// Returns how many calls to a host may be under way at once: two to a quick host.
 fn share(pace: Pace) -> usize
     ensures { result ≡ share pace }
 {
@@ -96,19 +99,19 @@ fn is_unknown(pace: Pace) -> bool
     matches!(pace, Pace::Unknown)
 }
 
-/// How many calls go on to hosts that may hold a thread for long.
+/// How many calls are under way to hosts that may hold a thread for long.
 #[derive(Clone, Copy)]
 pub(crate) struct Busy {
-    /// To those that aren't quick.
+    /// To hosts that aren't quick.
     pub(crate) unsure: usize,
-    /// To the slow ones among them.
+    /// To the slow hosts among them.
     pub(crate) slow: usize,
-    /// To those among them that hang.
+    /// To the hanging hosts among them.
     pub(crate) hanging: usize,
 }
 
 impl Busy {
-    /// Whether beside these a call may begin to a host that answered so.
+    /// Whether another call may begin beside these, to a host of this pace.
     pub(crate) fn has_room(self, pace: Pace) -> bool
         ensures { result ≡ has_room self pace }
     {
@@ -121,19 +124,20 @@ impl Busy {
     }
 }
 
-/// A host at which participants are to be called, or were when that was last asked.
+/// A host at which participants are to be called, or were by the last list.
 #[derive(Drop)]
 pub(crate) struct Host {
     name: String,
-    /// The name's number.
+    /// The number made from the name.
     key: u64,
-    /// Those whom a thread is to call there, in order.
+    /// The duties that are queued there, in order.
     due: VecDeque<Duty>,
     calls: usize,
     pace: Pace,
-    /// Among the turns of all hosts, the one when its last call began; else when it came.
+    /// The turn, counted over all hosts, at which its last call began, or at which it came if it
+    /// was never called.
     turn: u64,
-    /// Whether somebody there was to be called when that was last asked.
+    /// Whether the last list had a participant there.
     is_listed: bool,
 }
 
@@ -157,7 +161,8 @@ impl Model for Host {
 }
 
 impl Host {
-    /// The host of a duty, which has come at this turn and waits there first; none where no memory can be had.
+    /// Makes the host of a duty. It has come at this turn, and the duty is first in its queue.
+    /// Returns `None` if memory ran out.
     pub(crate) fn of(alloc: Global, duty: Duty, turn: u64) -> Option<Host>
         ensures { IfSome result (λ host. host ≡ newcomer duty turn) }
     {
@@ -176,7 +181,7 @@ impl Host {
         })
     }
 
-    /// Whether it has this name, which has this number.
+    /// Whether the host has this name, whose number is `key`.
     pub(crate) fn is_named(&self, key: u64, name: &str) -> bool
         requires { key ≡ key_of name.now }
         ensures { result ≡ bytes_eq self.now.name name.now }
@@ -187,49 +192,50 @@ impl Host {
         self.name.as_str() == name
     }
 
-    /// Whether somebody waits there to be called.
+    /// Whether a duty is queued there.
     pub(crate) fn is_due(&self) -> bool
         ensures { result ≡ is_due self.now }
     {
         !self.due.is_empty()
     }
 
-    /// Whether a call to it goes on, and it is slow.
+    /// Whether a call to it is under way, and it is slow.
     pub(crate) fn is_called_slowly(&self) -> bool
         ensures { result ≡ is_called_slowly self.now }
     {
         is_slow(self.pace) && self.calls > 0
     }
 
-    /// Whether a call to it goes on, and its last one hung.
+    /// Whether a call to it is under way, and its last one hung.
     pub(crate) fn is_called_as_hanging(&self) -> bool
         ensures { result ≡ is_called_as_hanging self.now }
     {
         is_hanging(self.pace) && self.calls > 0
     }
 
-    /// Whether a call to it goes on, and it isn't quick.
+    /// Whether a call to it is under way, and it isn't quick.
     pub(crate) fn is_called_unsurely(&self) -> bool
         ensures { result ≡ is_called_unsurely self.now }
     {
         !is_quick(self.pace) && self.calls > 0
     }
 
-    /// Whether a thread may call there now, while so many other calls go on.
+    /// Whether a thread may call there now, while these other calls are under way.
     pub(crate) fn may_be_called(&self, busy: Busy) -> bool
         ensures { result ≡ may_be_called busy self.now }
     {
         self.calls < share(self.pace) && busy.has_room(self.pace) && !self.due.is_empty()
     }
 
-    /// Whether it was never called, and is to be.
+    /// Whether it was never called, and has a duty queued.
     pub(crate) fn is_new(&self) -> bool
         ensures { result ≡ is_new self.now }
     {
         is_unknown(self.pace) && self.calls == 0 && !self.due.is_empty()
     }
 
-    /// Whether its turn is before another's: one that isn't called now goes first, and then the one whose last call began longest ago.
+    /// Whether its turn comes before another's. A host that isn't being called goes first, and then
+    /// the one whose last call began longest ago.
     pub(crate) fn is_before(&self, other: &Host) -> bool
         ensures { result ≡ is_before self.now other.now }
     {
@@ -240,14 +246,15 @@ impl Host {
         }
     }
 
-    /// Whether it came later than another.
+    /// Whether it came later than another host.
     pub(crate) fn is_newer(&self, other: &Host) -> bool
         ensures { result ≡ is_newer self.now other.now }
     {
         self.turn > other.turn
     }
 
-    /// The duty of the first who waits there, if somebody does. Its call counts as begun, at this turn.
+    /// Takes the first duty in its queue, if there is one. The duty's call counts as begun, at this
+    /// turn.
     pub(crate) fn begin(&mut self, turn: u64) -> Option<Duty>
         requires { self.old.calls < share self.old.pace }
         ensures begun { IfSome result (λ duty. Begins turn duty self.old self.new) }
@@ -259,14 +266,14 @@ impl Host {
         Some(duty)
     }
 
-    /// Notes that somebody there is to be called later.
+    /// Records that a participant there is to be called later.
     pub(crate) fn note(&mut self)
         ensures { self.new ≡ listed self.old }
     {
         self.is_listed = true;
     }
 
-    /// Puts a duty last, for a thread to call. It says whether there was memory for that.
+    /// Queues a duty there behind the others. Returns false if memory ran out.
     pub(crate) fn put(&mut self, duty: Duty) -> bool
         ensures { self.new ≡ (if result then with_due duty self.old else listed self.old) }
     {
@@ -274,7 +281,7 @@ impl Host {
         self.due.push_back(duty).is_ok()
     }
 
-    /// Takes the duties back that no thread has begun with.
+    /// Takes back the duties that no thread has begun.
     pub(crate) fn recall(&mut self)
         ensures { self.new ≡ recalled self.old }
     {
@@ -282,14 +289,14 @@ impl Host {
         self.is_listed = false;
     }
 
-    /// Whether somebody is to be called there, or is called.
+    /// Whether a participant there is to be called, or is being called.
     pub(crate) fn is_kept(&self) -> bool
         ensures { result ≡ is_kept self.now }
     {
         self.is_listed || self.calls > 0
     }
 
-    /// Counts a call that is over, and how it was answered.
+    /// Counts a call that is over, and records how it was answered.
     pub(crate) fn end(&mut self, pace: Pace)
         ensures { self.new ≡ with_end pace self.old }
     {

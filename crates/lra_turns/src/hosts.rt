@@ -1,4 +1,4 @@
-// The hosts at which participants are called. They have turns, so that none holds up others.
+// The hosts at which participants are called. They take turns, so that none holds up the others.
 ghost use Rattle.std.specs.Prelude.{◌≡◌, ◌<◌, ◌+◌, [], IfNone, IfSome, None, false, filter, length, map, slice_set};
 ghost use Rattle.std.specs.List.{list_any};
 ghost use Rattle.lra_turns.specs.Turns.{Begins, IsFirstOf, IsLongest, IsNewest, IsNewestNow, IsNext, IsPut, IsPutAt, IsTaken, MayTake, busy_with, changed_at, hanging_calls, host_at, is_before, is_due, is_kept, is_new, is_newer, is_newest_turn, listed, may_be_called, place_of, recalled, share, slow_calls, unsure_calls, with_end, with_hosts};
@@ -9,14 +9,14 @@ use lra_callback::Duty;
 use std::alloc::Global;
 use std::marker::Model;
 
-/// How many calls to slow hosts go on.
+/// Returns how many calls to slow hosts are under way.
 fn slow_calls(hosts: &[Host]) -> usize
     ensures { result ≡ slow_calls hosts.now }
 {
     hosts.iter().filter(|host| host.is_called_slowly()).count()
 }
 
-/// How many calls go on to hosts that hang.
+/// Returns how many calls to hanging hosts are under way.
 fn hanging_calls(hosts: &[Host]) -> usize
     ensures { result ≡ hanging_calls hosts.now }
 {
@@ -26,7 +26,7 @@ fn hanging_calls(hosts: &[Host]) -> usize
         .count()
 }
 
-/// How many calls go on to hosts that aren't quick.
+/// Returns how many calls to hosts that aren't quick are under way.
 fn unsure_calls(hosts: &[Host]) -> usize
     ensures { result ≡ unsure_calls hosts.now }
 {
@@ -36,7 +36,7 @@ fn unsure_calls(hosts: &[Host]) -> usize
         .count()
 }
 
-/// How many calls go on to hosts that may hold a thread for long.
+/// Returns how many calls are under way to hosts that may hold a thread for long.
 fn busy_with(hosts: &[Host]) -> Busy
     ensures { result ≡ busy_with hosts.now }
 {
@@ -47,7 +47,8 @@ fn busy_with(hosts: &[Host]) -> Busy
     }
 }
 
-/// The place of the one that has waited longer: the first of those before a place, or the one at that place, if it may be called.
+/// Returns the place of the host that has waited longer: the first of those before a place, or the
+/// host at that place, if it may be called.
 fn longer(hosts: &[Host], busy: Busy, place: usize, first: Option<usize>) -> Option<usize>
     requires within { place < length hosts.now }
     requires first { IsFirstOf place (may_be_called busy) is_before hosts.now first }
@@ -65,7 +66,7 @@ fn longer(hosts: &[Host], busy: Busy, place: usize, first: Option<usize>) -> Opt
     Some(other)
 }
 
-/// The place of the host that has waited longest for its turn, of those that may be called.
+/// Returns the place of the host that has waited longest for its turn, of those that may be called.
 fn longest(hosts: &[Host]) -> Option<usize>
     ensures { IsLongest hosts.now result }
 {
@@ -77,7 +78,8 @@ fn longest(hosts: &[Host]) -> Option<usize>
     first
 }
 
-/// The place of the one that came later: the last of those before a place, or the one at that place, if it was never called.
+/// Returns the place of the host that came later: the last of those before a place, or the host at
+/// that place, if it was never called.
 fn newer(hosts: &[Host], place: usize, last: Option<usize>) -> Option<usize>
     requires within { place < length hosts.now }
     requires last { IsFirstOf place is_new is_newer hosts.now last }
@@ -95,7 +97,7 @@ fn newer(hosts: &[Host], place: usize, last: Option<usize>) -> Option<usize>
     Some(other)
 }
 
-/// The place of the host that came last, of those that were never called.
+/// Returns the place of the host that came last, of those that were never called.
 fn newest(hosts: &[Host]) -> Option<usize>
     ensures { IsNewest hosts.now result }
 {
@@ -106,7 +108,7 @@ fn newest(hosts: &[Host]) -> Option<usize>
     last
 }
 
-/// That place, where it is the newest host's turn.
+/// Returns that place if it is the newest host's turn.
 fn newest_now(is_for_new: bool, hosts: &[Host]) -> Option<usize>
     ensures { IsNewestNow is_for_new hosts.now result }
 {
@@ -116,7 +118,8 @@ fn newest_now(is_for_new: bool, hosts: &[Host]) -> Option<usize>
     newest(hosts)
 }
 
-/// The duty of the first who waits at the host at this place, if somebody does. Its call counts as begun, at this turn.
+/// Takes the first duty queued at the host at this place, if there is one. The duty's call counts
+/// as begun, at this turn.
 fn begin_at(hosts: &mut [Host], place: usize, turn: u64) -> Option<Duty>
     requires within { place < length hosts.old }
     requires share { (host_at hosts.old place).calls < share (host_at hosts.old place).pace }
@@ -127,7 +130,7 @@ fn begin_at(hosts: &mut [Host], place: usize, turn: u64) -> Option<Duty>
     hosts[place].begin(turn)
 }
 
-/// The place of a duty's host, if it is known.
+/// Returns the place of a duty's host, if the host is known.
 fn place_of(hosts: &[Host], duty: &Duty) -> Option<usize>
     ensures place { result ≡ place_of duty.now hosts.now }
     ensures within { IfSome result (λ place. place < length hosts.now) }
@@ -142,14 +145,14 @@ fn place_of(hosts: &[Host], duty: &Duty) -> Option<usize>
     None
 }
 
-/// Forgets those at which nobody is to be called.
+/// Forgets the hosts at which no participant is to be called.
 fn forget_each(hosts: &mut Vec<Host>)
     ensures { hosts.new.items ≡ filter is_kept hosts.old.items }
 {
     hosts.retain(|host| host.is_kept());
 }
 
-/// Takes the duties back that no thread has begun with.
+/// Takes back the duties that no thread has begun.
 fn recall_each(hosts: &mut [Host])
     ensures { hosts.new ≡ map recalled hosts.old }
 {
@@ -164,7 +167,7 @@ pub(crate) struct Hosts {
     alloc: Global,
     list: Vec<Host>,
     turns: u64,
-    /// Whether the next turn is the newest host's, if one was never called.
+    /// Whether the next turn belongs to the newest host that was never called, if there is one.
     is_for_new: bool,
 }
 
@@ -192,15 +195,17 @@ impl Hosts {
         }
     }
 
-    /// Whether the next turn is that of the newest host that was never called, if there is one, and a thread is left for it.
+    /// Whether the next turn belongs to the newest host that was never called, if there is one, and
+    /// a thread is left for it.
     fn is_newest_turn(&self) -> bool
         ensures { result ≡ is_newest_turn self.now }
     {
         self.is_for_new && busy_with(&self.list).has_room(Pace::Unknown)
     }
 
-    /// The place of the host that is called next, if one may be. Each second turn is that of the newest host that was never called, so
-    /// that many that never answer, and are called the first time, hold up no other for long; each has that turn once.
+    /// Returns the place of the host that is called next, if one may be. Every second turn belongs
+    /// to the newest host that was never called. So a crowd of hosts that never answer, all called
+    /// for the first time, holds up no other host for long: each of them gets that turn once.
     fn next(&self) -> Option<usize>
         ensures { IsNext self.now result }
     {
@@ -211,21 +216,21 @@ impl Hosts {
         }
     }
 
-    /// Whether a thread may call somebody now.
+    /// Whether a thread may call some participant now.
     pub(crate) fn may_take(&self) -> bool
         ensures { MayTake self.now result }
     {
         self.next().is_some()
     }
 
-    /// Whether somebody waits to be called.
+    /// Whether a duty is queued at some host.
     pub(crate) fn is_any_due(&self) -> bool
         ensures { result ≡ list_any is_due self.now.hosts }
     {
         self.list.iter().any(|host| host.is_due())
     }
 
-    /// The duty that is called for next, if one may be. Its call counts as begun.
+    /// Takes the duty to call for next, if a call may begin. Its call counts as begun.
     pub(crate) fn take(&mut self) -> Option<Duty>
         ensures { IsTaken self.old self.new result }
     {
@@ -237,7 +242,7 @@ impl Hosts {
         Some(duty)
     }
 
-    /// Notes that a duty's participant is to be called later, so that its host isn't forgotten.
+    /// Records that a duty's participant is to be called later, so that its host isn't forgotten.
     pub(crate) fn note(&mut self, duty: &Duty)
         ensures { self.new ≡ with_hosts (changed_at (place_of duty.now self.old.hosts) listed self.old.hosts) self.old }
     {
@@ -261,7 +266,7 @@ impl Hosts {
         true
     }
 
-    /// Puts a duty last at its host, for a thread to call. It says whether there was memory for that.
+    /// Queues a duty at its host behind the others. Returns false if memory ran out.
     pub(crate) fn put(&mut self, duty: Duty) -> bool
         ensures { IsPut duty self.old self.new result }
     {
@@ -271,14 +276,14 @@ impl Hosts {
         }
     }
 
-    /// Takes the duties back that no thread has begun with.
+    /// Takes back the duties that no thread has begun.
     pub(crate) fn recall(&mut self)
         ensures { self.new ≡ with_hosts (map recalled self.old.hosts) self.old }
     {
         recall_each(&mut self.list);
     }
 
-    /// Forgets the hosts at which nobody is to be called.
+    /// Forgets the hosts at which no participant is to be called.
     pub(crate) fn forget(&mut self)
         ensures { self.new ≡ with_hosts (filter is_kept self.old.hosts) self.old }
     {

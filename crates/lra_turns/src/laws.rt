@@ -26,8 +26,8 @@ ghost use Rattle.lra_turns.specs.Turns.{AtHost, BeginsAt, IsLongest, IsNext, IsP
 ghost use Rattle.lra_turns.specs.Turns.{place_of as host_place};
 ghost use Rattle.lra_turns.specs.Waiting.{LeavesOne, WaitsFor, ahead, all_calls, other_calls};
 
-/// A host that was called has its turn again only behind each other that may be called and isn't called now: its last call began before
-/// that one's last, or before that one came.
+/// A host that was called gets its turn again only after each other host that may be called and
+/// isn't being called: its last call began before the other's last call, or before the other came.
 pub fn who_was_called_waits_for_the_others()
     ensures { (now : Turns) (place other : ℕ) → IsNext now (Some place) →
         is_new (host_at now.hosts place) ≡ false →
@@ -36,14 +36,15 @@ pub fn who_was_called_waits_for_the_others()
         ((host_at now.hosts place).calls ≡ 0) × ((host_at now.hosts place).turn ≤ (host_at now.hosts other).turn) }
 {}
 
-/// Who is called next may be called: somebody waits there, and it has less calls than its share.
+/// A host that is called next may be called: a duty is queued there, and fewer calls to it are
+/// under way than its share.
 pub fn who_is_next_may_be_called()
     ensures { (now : Turns) (place : ℕ) → IsNext now (Some place) →
         (place < length now.hosts) × (may_be_called (busy_with now.hosts) (host_at now.hosts place) ≡ true) }
 {}
 
-/// A duty that is taken is one of those for which somebody was to be called, and the others stay: each test that all pass, it passes, and
-/// those that are left.
+/// A duty that is taken is one of those that were queued or kept, and the others stay: it passes
+/// each test that all of them pass, and so do those that are left.
 pub fn who_is_taken_was_named()
     ensures { (old new : Calling) (duty : Duty) (test : Duty → Bool) →
         IsTakenFrom old new (Some duty) → AllNamed test old → Passes test duty × AllNamed test new }
@@ -55,8 +56,9 @@ pub fn nobody_waits_for_nothing()
         may_be_called (busy_with now.hosts) (host_at now.hosts other) ≡ true → IsNext now None → ⊥ }
 {}
 
-/// A quick host waits for no call to another: while somebody waits there, and it has less calls than its share, it may be called,
-/// whatever hosts hang. So one may be.
+/// A quick host waits for no call to another host: while a duty is queued there, and fewer calls to
+/// it are under way than its share, it may be called, whichever hosts hang. So some host may be
+/// called.
 pub fn a_quick_host_waits_for_no_call()
     ensures may { (busy : TheBusy) (host : AtHost) → host.pace ≡ Quick →
         host.calls < share Quick → is_due host ≡ true → may_be_called busy host ≡ true }
@@ -65,8 +67,9 @@ pub fn a_quick_host_waits_for_no_call()
         is_due (host_at now.hosts place) ≡ true → IsNext now None → ⊥ }
 {}
 
-/// One of four callers is left to quick hosts: whatever comes, three calls at most go on to others. If a host is quick no more once one
-/// of two calls to it is over, the other call is one of the three.
+/// One of four callers is left to quick hosts: whatever happens, at most three calls to other hosts
+/// are under way. If a host is no longer quick once one of two calls to it is over, the other call
+/// is one of the three.
 pub fn one_caller_is_left_to_quick_hosts()
     ensures none { LeavesOne [] }
     ensures taken { (old new : Turns) (duty : Option Duty) →
@@ -84,8 +87,9 @@ pub fn one_caller_is_left_to_quick_hosts()
         unsure_calls (filter is_kept hosts) ≡ unsure_calls hosts }
 {}
 
-/// Nobody but a quick host takes the caller that is left to quick hosts: a host that refuses at once, or isn't quick for another reason,
-/// may be called only while fewer than three calls go on to hosts that aren't quick. Its own call then is one of the three.
+/// Only a quick host takes the caller that is left to quick hosts. A host that refuses at once, or
+/// isn't quick for another reason, may be called only while fewer than three calls to hosts that
+/// aren't quick are under way. Its own call is then one of the three.
 pub fn who_refuses_at_once_never_takes_the_last_caller()
     ensures begins { (busy : TheBusy) (host : AtHost) → is_quick host.pace ≡ false →
         may_be_called busy host ≡ true → busy.unsure < 3 }
@@ -93,9 +97,10 @@ pub fn who_refuses_at_once_never_takes_the_last_caller()
         is_called_unsurely host ≡ nat_lt 0 host.calls }
 {}
 
-/// Hosts that hang hold two callers at most: a call to one begins only while fewer than two go on to hosts whose last call hung, and
-/// nothing else makes a third, but for one case. Of two calls that go on to a quick host one hangs. Then the other, which began while the
-/// host was quick, counts too. There is never a fourth, as one caller is left to quick hosts.
+/// Hanging hosts hold at most two callers: a call to one begins only while fewer than two calls to
+/// hosts whose last call hung are under way, and nothing else makes a third, with one exception. If
+/// two calls to a quick host are under way and one of them hangs, the other, which began while the
+/// host was quick, counts too. There is never a fourth, because one caller is left to quick hosts.
 pub fn hosts_that_hang_hold_two_callers()
     ensures begins { (busy : TheBusy) (host : AtHost) → host.pace ≡ Hanging →
         may_be_called busy host ≡ true → busy.hanging < 2 }
@@ -116,9 +121,10 @@ pub fn hosts_that_hang_hold_two_callers()
         hanging_calls (filter is_kept hosts) ≡ hanging_calls hosts }
 {}
 
-/// A slow host, which is heard, waits for no host that hangs: while somebody waits there and it isn't called, it may be called if fewer
-/// than two calls go on to slow hosts, and fewer than three to all that aren't quick. So however many hosts hang, it may be called while
-/// two calls go on to these, and none to another host that isn't quick.
+/// A slow host, which does answer, waits for no hanging host. While a duty is queued there and it
+/// isn't being called, it may be called if fewer than two calls to slow hosts are under way, and
+/// fewer than three to all hosts that aren't quick. So, however many hosts hang, it may be called
+/// while two calls to these are under way, and none to any other host that isn't quick.
 pub fn a_slow_host_waits_for_no_host_that_hangs()
     ensures may { (busy : TheBusy) (host : AtHost) → host.pace ≡ Slow →
         host.calls < share Slow → is_due host ≡ true → busy.slow < 2 → busy.unsure < 3 →
@@ -133,12 +139,16 @@ pub fn a_slow_host_waits_for_no_host_that_hangs()
         slow_calls now.hosts < 2 → unsure_calls now.hosts < 3 → IsNext now None → ⊥ }
 {}
 
-/// A host waits for those alone whose turn isn't behind its own. Each turn, but for the newest's, that comes while it may be called and
-/// isn't called makes them one fewer, and nothing makes them more. So while it may be called at most twice as many calls begin, and one,
-/// before it has its turn. The law says nothing of a time in which it may not be called. A quick host always may, while somebody waits
-/// there and it has less calls than its share. Another may only while fewer than three calls go on to hosts that aren't quick. Beside
-/// that, one that hangs, as a host that is called in vain for long often does, may only while fewer than two calls to such go on, and a
-/// slow one only while fewer than two to slow ones do.
+/// A host waits only for those whose turn isn't behind its own. Each turn, except the newest
+/// host's, that comes while it may be called and isn't being called makes them one fewer, and
+/// nothing makes them more. So, while it may be called, at most twice as many calls plus one begin
+/// before it has its turn.
+///
+/// The law says nothing about times in which the host may not be called. A quick host always may,
+/// while a duty is queued there and fewer calls to it are under way than its share. Any other host
+/// may only while fewer than three calls to hosts that aren't quick are under way. In addition, a
+/// hanging host, as one whose calls fail for long often is, may only while fewer than two calls to
+/// hanging hosts are under way, and a slow one only while fewer than two to slow hosts are.
 pub fn a_host_waits_for_those_before_it()
     ensures by_turn { (now : Turns) (place : ℕ) →
         is_newest_turn now ≡ false → IsNext now (Some place) → IsLongest now.hosts (Some place) }
@@ -166,8 +176,8 @@ pub fn a_host_waits_for_those_before_it()
         WaitsFor count turn now → count ≤ 2 * ahead turn now.hosts + 1 }
 {}
 
-/// All duties of a home, in their order, name nobody twice: that is the list that a node makes.
-/// Who is to complete or to compensate has nothing to forget yet.
+/// The list of all duties of a home, in their order, which is the list that a node makes, names no
+/// participant twice. A participant that is to complete or to compensate has nothing to forget yet.
 pub fn a_list_names_nobody_twice()
     ensures set { (home : ℕ) (S : List Fact) (duties : List Duty) →
         AreAll (IsDuty home S) (comes_first S) duties → NamesNobodyTwice duties }
@@ -175,8 +185,8 @@ pub fn a_list_names_nobody_twice()
         1 ≤ me → me ≤ length view.front → NamesNobodyTwice (duties_of view me) }
 {}
 
-/// Nobody is called twice at a time: who is called was not called before, and is called once now;
-/// and of nobody else a call begins.
+/// No participant is called twice at a time: the one whose duty is taken was not being called
+/// before, and is called once now; and no call to any other participant begins.
 pub fn who_is_taken_was_not_called()
     ensures begins { (old new : Calling) (duty : Duty) →
         HasEachOnce old → IsTakenFrom old new (Some duty) → BeginsOnce (called_of duty) old new }
@@ -184,9 +194,10 @@ pub fn who_is_taken_was_not_called()
         HasEachOnce old → IsTakenFrom old new (Some duty) → HasEachOnce new }
 {}
 
-/// What else comes keeps each there once, and leaves others who are called alone: pauses that are
-/// over, and of one who is called the end of its call, that it was heard, was busy, was called in
-/// vain, and is forgotten.
+/// Every other event keeps each participant there once, and leaves alone the other participants
+/// that are being called. These events are: pauses that are over; and for a participant that is
+/// being called, that its call ends, was answered, found it busy, or failed, and that it is
+/// forgotten.
 pub fn who_is_called_is_left_alone()
     ensures resumed { (at : Option Duration) (now : Duration) (old new : Calling) (may : Bool) →
         ResumesAt at now old new may → HasEachOnce old →
@@ -211,11 +222,12 @@ pub fn who_is_called_is_left_alone()
     ensures none { HasEachOnce nothing }
 {}
 
-/// A participant is called only for what the last list names. Of a list `put_all` says that all for
-/// which somebody is to be called is of it, and that no call goes on that began behind it. So a call
-/// that began before and comes to nothing is made again only for what the list has, and else
-/// forgotten. One that began behind it is for what was named (`who_is_taken_was_named`), and is made
-/// again for the same. Nothing but a call that begins makes one of the first kind one of the second.
+/// A participant is called only for what the last list names. By the contract of `put_all`, every
+/// duty that is queued or kept is of that list, and no call is under way that began after the list
+/// came. So if a call that began before the list fails, it is repeated only for what the list has,
+/// and otherwise forgotten. A call that began after the list is for what was named
+/// (`who_is_taken_was_named`), and is repeated for the same. Only a call that begins turns one of
+/// the first kind into one of the second.
 pub fn only_what_the_last_list_names_is_called()
     ensures before { (test : Duty → Bool) (duty : Duty) (came : TheCame) (now : Duration)
         (old new : Calling) (plight : Option ThePlight) →
@@ -246,8 +258,8 @@ pub fn only_what_the_last_list_names_is_called()
         BeginsNoCall old (forgotten who old) }
 {}
 
-/// So whatever happens between two lists, each call that begins is for what the first of them has:
-/// its duty passes each test that all of that list pass.
+/// So, whatever happens between two lists, each call that begins is for what the first of them has:
+/// its duty passes each test that all duties of that list pass.
 pub fn between_two_lists_only_what_the_first_names_is_called()
     ensures { (list : List Duty) (events : List Event) (old new : Calling) (test : Duty → Bool) →
         HasEachOnce old → NamesOnly old list → ((who : TheCalled) → current_of who old.slips ≡ 0) →

@@ -1,5 +1,5 @@
-//! Whom the threads that call participants are to call next: by host in turns, and whom only after a pause. It knows no thread, no lock
-//! and no clock: each moment is handed in.
+//! Schedules the callbacks of the caller threads: whom to call next, host by host in turns, and
+//! whom only after a pause. It knows no thread, no lock and no clock: each moment is passed in.
 #![tactic(auto)]
 
 mod calls;

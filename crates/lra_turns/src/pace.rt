@@ -1,16 +1,17 @@
 // How hosts answer.
 
-/// How a host answered its last call. The call was heard if the answer counts for something; else it came to nothing.
+/// How a host answered its last call. The call counts as heard if the answer counted for something;
+/// otherwise it failed.
 #[derive(Clone, Copy, Debug, PartialEq, Eq)]
 pub enum Pace {
     /// No call to it is over yet.
     Unknown,
-    /// The call was heard soon.
+    /// The call was heard quickly.
     Quick,
-    /// The call was heard late.
+    /// The call was heard slowly.
     Slow,
-    /// The call came to nothing soon.
+    /// The call failed quickly.
     Refusing,
-    /// The call came to nothing late.
+    /// The call failed slowly.
     Hanging,
 }

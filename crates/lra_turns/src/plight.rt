@@ -1,4 +1,4 @@
-// Those who are called in vain, and what is told of them.
+// Participants whose calls fail, and what is logged of them.
 ghost use Rattle.std.specs.Prelude.{◌≡◌, IfNone, IfSome, IsSome, false, true};
 ghost use Rattle.lra_turns.specs.Plights.{Tells, is_told_at, told_at, vain_after};
 
@@ -9,20 +9,20 @@ use std::alloc::Global;
 use std::fmt;
 use std::time::Duration;
 
-/// How long somebody is called in vain before that is told, in nanoseconds.
+/// How long a participant's calls must fail before that is logged, in nanoseconds.
 const FIRST_TOLD: u128 = 60_000_000_000;
 
-/// How long after that it is told again, in nanoseconds.
+/// How long after that it is logged again, in nanoseconds.
 const TOLD_AGAIN: u128 = 600_000_000_000;
 
-/// What came of a call after which the participant is called again.
+/// The result of a call after which the participant is called again.
 #[derive(Clone, Copy, Debug, PartialEq, Eq)]
 pub enum Came {
     /// Its host couldn't be reached.
     NoConnection,
     /// The connection ended, or time ran out, before the answer was whole.
     Broken,
-    /// An answer with this status, by which it is to be called again.
+    /// An answer with this status, after which it is called again.
     Code(u16),
 }
 
@@ -36,40 +36,40 @@ impl fmt::Display for Came {
     }
 }
 
-/// What is to be told of one who is called in vain, or was.
+/// What is to be logged of a participant whose calls fail, or failed until now.
 #[derive(Debug, Drop)]
 pub struct Plight {
     pub id: LraId,
     pub member: u8,
-    /// What it was called for last.
+    /// What it was last called for.
     pub kind: Kind,
-    /// Where, with its port.
+    /// The host at which it is called, with its port.
     pub host: String,
-    /// How many times in a row it was called in vain.
+    /// How many of its calls in a row failed.
     pub calls: u32,
     /// How long ago the first of these calls was over.
     pub time: Duration,
-    /// What came of the last.
+    /// The result of the last call.
     pub came: Came,
-    /// Whether it was heard of now.
+    /// Whether an answer now counted, so that this is over.
     pub is_over: bool,
 }
 
-/// How somebody was called in vain.
+/// The failed calls of a participant.
 #[derive(Clone, Copy, Debug, PartialEq, Eq)]
 pub struct Vain {
-    /// How many times in a row.
+    /// How many in a row.
     pub calls: u32,
     /// When the first of these calls was over.
     pub since: Duration,
-    /// What came of the last.
+    /// The result of the last call.
     pub came: Came,
-    /// When that was last told, if it was.
+    /// When that was last logged, if it was.
     pub told: Option<Duration>,
 }
 
 impl Vain {
-    /// One call more that came to nothing.
+    /// Returns the count with one more failed call.
     pub(crate) fn after(earlier: Option<Vain>, came: Came, now: Duration) -> Vain
         ensures { result ≡ vain_after earlier came now }
     {
@@ -89,7 +89,7 @@ impl Vain {
         }
     }
 
-    /// Whether it is told now.
+    /// Whether it is to be logged now.
     fn is_to_be_told(&self, now: Duration) -> bool
         ensures { result ≡ is_told_at now self.now }
     {
@@ -99,7 +99,7 @@ impl Vain {
         }
     }
 
-    /// What is told of it; none where no memory can be had.
+    /// Returns what is logged of it, or `None` if memory ran out.
     fn plight(&self, alloc: Global, duty: &Duty, now: Duration, is_over: bool) -> Option<Plight>
         ensures { IfSome result (Tells self.now duty.now now is_over) }
     {
@@ -116,7 +116,7 @@ impl Vain {
         })
     }
 
-    /// What is to be told of it now, if something is. For want of memory it is told later.
+    /// Returns what is to be logged of it now, if anything. If memory runs out, it is logged later.
     pub(crate) fn tell(&mut self, alloc: Global, duty: &Duty, now: Duration) -> Option<Plight>
         ensures due { IsSome result → is_told_at now self.old ≡ true }
         ensures told { IfSome result (λ plight. Tells self.old duty.now now false plight × (self.new ≡ told_at now self.old)) }
@@ -130,7 +130,7 @@ impl Vain {
         Some(plight)
     }
 
-    /// What is to be told of its end, if it was told.
+    /// Returns what is to be logged of its end, if the failed calls were logged.
     pub(crate) fn tell_end(&self, alloc: Global, duty: &Duty, now: Duration) -> Option<Plight>
         ensures { IfSome result (λ plight. IsSome self.now.told × Tells self.now duty.now now true plight) }
     {

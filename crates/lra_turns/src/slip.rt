@@ -1,4 +1,5 @@
-// What is remembered of one who is to be called, is called, or is called again after a pause.
+// What is remembered of a participant that is to be called, is being called, or is called again
+// after a pause.
 ghost use Rattle.std.specs.Prelude.{◌≡◌, ◌+◌, ◌*◌, ◌<◌, ◌≤◌, IfNone, IfSome, None, Some, length, map, max, min, take, true};
 ghost use Rattle.std.specs.Duration.{as_nanos, max_nanos};
 ghost use Rattle.lra_turns.specs.InVain.{count_in_vain, is_in_vain, longest_in_vain, time_in_vain};
@@ -16,7 +17,7 @@ use std::time::Duration;
 /// The first pause before a participant is called again, in milliseconds.
 const FIRST_PAUSE: u64 = 250;
 
-/// The longest, in milliseconds.
+/// The longest pause, in milliseconds.
 const LAST_PAUSE: u64 = 30_000;
 
 /// A duty whose call has begun. Only `Calls::take` makes one.
@@ -40,14 +41,14 @@ impl Due {
         Due { duty }
     }
 
-    /// The duty.
+    /// Returns the duty.
     pub fn duty(&self) -> &Duty
         ensures { result.now ≡ self.now }
     {
         &self.duty
     }
 
-    /// The duty, to be kept.
+    /// Returns the duty by value.
     pub fn into_duty(self) -> Duty
         ensures { result ≡ self }
     {
@@ -55,8 +56,8 @@ impl Due {
     }
 }
 
-/// Who is called. A participant is told of the end apart from the rest, so that a link to forget that never answers doesn't hold that
-/// up.
+/// The participant that is called. Its notification of the end counts as a callee of its own, so
+/// that a forget link that never answers doesn't hold that up.
 #[derive(Clone, Copy)]
 pub struct Called {
     pub id: LraId,
@@ -65,7 +66,7 @@ pub struct Called {
 }
 
 impl Called {
-    /// Who is called for a duty.
+    /// Returns whom a duty calls.
     pub fn of(duty: &Duty) -> Called
         ensures { result ≡ called_of duty.now }
     {
@@ -76,7 +77,7 @@ impl Called {
         }
     }
 
-    /// Whether it is this one.
+    /// Whether both are the same.
     pub fn is(&self, other: &Called) -> bool
         ensures { result ≡ same_called self.now other.now }
     {
@@ -89,18 +90,19 @@ impl Called {
     }
 }
 
-/// Where one stands who is to be called.
+/// The state of a participant that is to be called.
 #[derive(Clone, Copy)]
 pub(crate) enum Stand {
     /// It waits for a thread.
     Waits,
-    /// It is called now, or what was heard of it isn't entered yet.
+    /// It is being called, or what its answer means isn't recorded yet.
     IsCalled,
     /// It may be called again at this moment.
     Pauses(Duration),
 }
 
-/// For what one is called again: what a list has brought meanwhile, or else this.
+/// Returns what a participant is called for again: what a list has brought meanwhile, or otherwise
+/// this duty.
 fn newest(brought: Option<Duty>, duty: Duty) -> Duty
     ensures { result ≡ newest brought duty }
 {
@@ -110,22 +112,24 @@ fn newest(brought: Option<Duty>, duty: Duty) -> Duty
     }
 }
 
-/// What is remembered of one who is to be called, is called, or is called again after a pause.
+/// What is remembered of a participant that is to be called, is being called, or is called again
+/// after a pause.
 #[derive(Drop)]
 pub(crate) struct Slip {
     pub(crate) who: Called,
     pub(crate) pause: u64,
     pub(crate) stand: Stand,
-    /// For what it is called behind the pause. Of one who is called now, what a list has brought since that began.
+    /// What it is called for after the pause. While it is being called: what a list has brought
+    /// since the call began.
     pub(crate) kept: Option<Duty>,
-    /// Whether it was to be called when that was last asked.
+    /// Whether the last list named it.
     pub(crate) is_listed: bool,
-    /// How it was called in vain, if its last call was.
+    /// Its failed calls, if its last call failed.
     pub(crate) vain: Option<Vain>,
 }
 
 impl Slip {
-    /// Of one who may be called at once.
+    /// Makes the slip of a participant that may be called at once.
     pub(crate) fn of(who: Called) -> Slip
         ensures who { result.who ≡ who }
         ensures kept { result.kept ≡ None }
@@ -141,7 +145,7 @@ impl Slip {
         }
     }
 
-    /// Has it pause, longer than the last time. It gives when that is over.
+    /// Pauses the participant, longer than the last time. Returns when the pause ends.
     pub(crate) fn pause_from(&mut self, now: Duration) -> Duration
         ensures paused { IsPaused result self.old self.new }
         ensures time { as_nanos result ≡ min (as_nanos now + self.new.pause * 1_000_000) max_nanos }
@@ -153,8 +157,9 @@ impl Slip {
         until
     }
 
-    /// Has it pause so, since the call for this duty was in vain. It is called next for what a list has brought meanwhile, or else for
-    /// this again. It gives when the pause is over.
+    /// Pauses the participant in the same way, because its call for this duty failed. It is called
+    /// next for what a list has brought meanwhile, or otherwise for this duty again. Returns when
+    /// the pause ends.
     pub(crate) fn pause_in_vain(&mut self, duty: Duty, vain: Vain, now: Duration) -> Duration
         ensures kept { self.new.kept ≡ Some (newest self.old.kept duty) }
         ensures vain { self.new.vain ≡ Some vain }
@@ -167,14 +172,14 @@ impl Slip {
         self.pause_from(now)
     }
 
-    /// Whether it is called now, or what was heard of it isn't entered yet.
+    /// Whether it is being called, or what its answer means isn't recorded yet.
     pub(crate) fn is_called(&self) -> bool
         ensures { result ≡ is_called self.now }
     {
         matches!(self.stand, Stand::IsCalled)
     }
 
-    /// When it may be called again; none while it waits for a thread, or is called.
+    /// Returns when it may be called again; `None` while it waits for a thread or is being called.
     pub(crate) fn until(&self) -> Option<Duration>
         ensures { result ≡ until_in self.now.stand }
     {
@@ -184,7 +189,7 @@ impl Slip {
         }
     }
 
-    /// Whether it pauses, and may be called again.
+    /// Whether its pause is over, so that it may be called again.
     pub(crate) fn is_over(&self, now: Duration) -> bool
         ensures { result ≡ is_over now self.now }
     {
@@ -194,7 +199,7 @@ impl Slip {
         }
     }
 
-    /// Notes that its call begins, if it is this one.
+    /// Records that its call begins, if this slip is the callee's.
     pub(crate) fn begin(&mut self, who: &Called)
         ensures { self.new ≡ begun_to who.now self.old }
     {
@@ -203,7 +208,7 @@ impl Slip {
         }
     }
 
-    /// Has it wait for a thread, or, where there was no memory for that, for the next list.
+    /// Makes the participant wait for a thread or, if memory for that ran out, for the next list.
     pub(crate) fn wait(&mut self, is_put: bool)
         requires { self.old.is_listed ≡ true }
         ensures made { IsMadeToWait is_put self.old self.new }
@@ -217,7 +222,8 @@ impl Slip {
         };
     }
 
-    /// Takes it back from those that wait for a thread. How long it paused is kept, and for what it was to be called isn't.
+    /// Takes the participant back from those that wait for a thread. The length of its pause is
+    /// kept; what it was to be called for isn't.
     pub(crate) fn recall(&mut self)
         ensures recalled { IsRecalled self.old self.new }
         ensures exact { self.new ≡ taken_back self.old }
@@ -229,14 +235,14 @@ impl Slip {
         self.is_listed = false;
     }
 
-    /// Whether its last call was in vain.
+    /// Whether its last call failed.
     fn is_in_vain(&self) -> bool
         ensures { result ≡ is_in_vain self.now }
     {
         self.vain.is_some()
     }
 
-    /// How long it has been called in vain; no time, if its last call wasn't.
+    /// Returns for how long its calls have failed: zero if its last call didn't fail.
     fn time_in_vain(&self, now: Duration) -> Duration
         ensures { as_nanos result ≡ time_in_vain now self.now }
     {
@@ -247,14 +253,14 @@ impl Slip {
     }
 }
 
-/// How many are called in vain.
+/// Returns how many participants have failing calls.
 pub(crate) fn count_in_vain(slips: &[Slip]) -> u64
     ensures { result ≡ count_in_vain slips.now }
 {
     slips.iter().filter(|slip| slip.is_in_vain()).count() as u64
 }
 
-/// The longer of two times.
+/// Returns the longer of two times.
 fn longer(one: Duration, other: Duration) -> Duration
     ensures { as_nanos result ≡ max (as_nanos one) (as_nanos other) }
 {
@@ -265,7 +271,7 @@ fn longer(one: Duration, other: Duration) -> Duration
     }
 }
 
-/// How long the one has been called in vain that is so for longest.
+/// Returns for how long the calls of the worst participant have failed.
 pub(crate) fn longest_in_vain(slips: &[Slip], now: Duration) -> Duration
     ensures { as_nanos result ≡ longest_in_vain now slips.now }
 {
@@ -276,7 +282,7 @@ pub(crate) fn longest_in_vain(slips: &[Slip], now: Duration) -> Duration
     longest
 }
 
-/// The place of a slip, from a place on.
+/// Returns the place of a participant's slip at or behind `from`.
 pub(crate) fn place_from(slips: &[Slip], from: usize, who: &Called) -> Option<usize>
     ensures within { IfSome result (λ place. place < length slips.now) }
     ensures found { IfSome result (λ place. (from ≤ place) × ((slip_at slips.now place).who ≡ who.now)) }
@@ -290,7 +296,7 @@ pub(crate) fn place_from(slips: &[Slip], from: usize, who: &Called) -> Option<us
     None
 }
 
-/// The place of the first slip of somebody, if there is one.
+/// Returns the place of a participant's first slip, if there is one.
 pub(crate) fn place_of(slips: &[Slip], who: &Called) -> Option<usize>
     ensures place { result ≡ place_of who.now slips.now }
     ensures within { IfSome result (λ place. place < length slips.now) }
@@ -298,7 +304,7 @@ pub(crate) fn place_of(slips: &[Slip], who: &Called) -> Option<usize>
     slips.iter().position(|slip| slip.who.is(who))
 }
 
-/// Notes that the call of somebody begins.
+/// Records that the call of a participant begins.
 pub(crate) fn begin_each(slips: &mut [Slip], who: &Called)
     ensures { slips.new ≡ map (begun_to who.now) slips.old }
 {
@@ -307,7 +313,7 @@ pub(crate) fn begin_each(slips: &mut [Slip], who: &Called)
     }
 }
 
-/// Forgets what is remembered of somebody.
+/// Forgets what is remembered of a participant.
 pub(crate) fn forget_each(slips: &mut Vec<Slip>, who: &Called)
     ensures { slips.new.items ≡ without who.now slips.old.items }
 {
