@@ -1,4 +1,4 @@
-// Connections that wait for a worker.
+// Queues connections that wait for a worker.
 ghost use Rattle.std.specs.Prelude.{◌≡◌, ◌⊎◌, ◌++◌, ◌∷◌, [], IfNone, IfSome};
 
 use crate::holder::NoHolder;
@@ -13,63 +13,64 @@ use std::sync::{Condvar, CondvarTimeouts, Mutex, Wait};
 use std::time::{Clock, Duration};
 use std::{io, thread};
 
-/// How long a worker looks for a connection before it sleeps. What comes meanwhile wakes nobody.
-/// One worker at a time looks. On an idle virtual machine a wake-up costs more than an answer.
+/// How long a worker watches for a connection before it sleeps. A connection that comes meanwhile
+/// needs to wake nobody. One worker at a time watches. On an idle virtual machine a wake-up costs
+/// more than an answer.
 const WATCH_US: u64 = 100;
 
-/// How often it looks at most.
+/// The most times that it looks while it watches.
 const MAX_LOOKS: u32 = 10_000;
 
-/// How many connections wait at most at which nobody has looked yet. More wait in the system. Without
-/// a bound a flood of clients left 14,000, for which each other client waited.
+/// The most connections that wait without anybody having looked at them. More wait in the system.
+/// Without a bound, a flood of clients left 14,000, for which every other client waited.
 const MAX_UNSEEN: usize = 1_024;
 
-/// How many workers read a long request as it comes at most.
+/// The most workers that read a long request as it comes.
 const MAX_READING: u64 = 2;
 
-// What lies under the lock.
+// What the lock guards.
 #[derive(Drop)]
 struct Waiting {
     pending: VecDeque<PendingConnection>,
-    /// Pulls that are held: no worker looks at them until they are freed.
+    /// Pulls and commands that are held: no worker looks at them until they are freed.
     held: VecDeque<PendingConnection>,
     /// Answers that wait until other nodes have what they show.
     promised: VecDeque<PendingConnection>,
-    /// At how many of those that wait for a worker nobody has looked yet.
+    /// How many of the connections that wait for a worker nobody has looked at yet.
     unseen: usize,
     /// How much of the room their answers take.
     room: Room,
-    /// Whether a worker looks, and doesn't sleep.
+    /// Whether a worker watches instead of sleeping.
     watched: bool,
     /// How many workers sleep.
     asleep: usize,
     ended: bool,
 }
 
-/// Connections that wait for a worker, first come first served. It outlives the runs of its node:
-/// what waits when a run ends is served in the next.
+/// Connections that wait for a worker, first come, first served. The queue outlives the runs of its
+/// node: what waits when a run ends is served in the next.
 #[derive(Drop)]
 pub struct AcceptQueue {
     waiting: Mutex<Waiting>,
     came: Condvar,
-    /// How many wait, for who looks without the lock; `u64::MAX` once the run is over.
+    /// How many wait, for readers without the lock; `u64::MAX` once the run is over.
     count: AtomicU64,
-    /// How many bytes of short and of long answers wait, for who asks without the lock.
+    /// How many bytes of short and of long answers wait, for readers without the lock.
     short: AtomicU64,
     long: AtomicU64,
-    /// How many pulls are held, likewise, and how often they were freed.
+    /// How many pulls are held, for readers without the lock, and how often they were freed.
     holding: AtomicU64,
     freed: AtomicU64,
-    /// How many answers wait, likewise.
+    /// How many answers wait, for readers without the lock.
     promises: AtomicU64,
     /// How many workers read a long request as it comes.
     reading: AtomicU64,
-    /// How many connections were closed for want of files since that was last asked.
+    /// How many connections were closed for lack of files since this was last asked.
     closed: AtomicU64,
 }
 
 impl Waiting {
-    /// Puts a connection last. One for which there is no memory is closed.
+    /// Puts a connection last. If memory runs out, it is closed.
     fn push(&mut self, pending: PendingConnection)
         ensures { (self.new.pending.items ≡ self.old.pending.items ++ pending ∷ [])
             ⊎ (self.new.pending.items ≡ self.old.pending.items) }
@@ -81,7 +82,7 @@ impl Waiting {
         }
     }
 
-    /// Holds no pull of this node any longer: it has sent another.
+    /// Stops holding the pulls of this node, because it has sent another.
     fn release(&mut self, asker: Option<u8>) {
         if asker.is_none() {
             return;
@@ -100,7 +101,7 @@ impl Waiting {
         }
     }
 
-    /// Puts the held pulls behind the connections that wait. It says how many.
+    /// Puts the held pulls behind the connections that wait, and returns how many.
     fn free(&mut self) -> usize {
         let count = self.held.len();
         for _pull in 0..count {
@@ -111,7 +112,7 @@ impl Waiting {
         count
     }
 
-    /// Keeps an answer that waits. One for which there is no memory is never sent.
+    /// Keeps an answer that waits. If memory runs out, it is never sent.
     fn keep(&mut self, pending: PendingConnection) {
         let share = pending.share();
         if self.promised.push_back(pending).is_ok() {
@@ -119,8 +120,8 @@ impl Waiting {
         }
     }
 
-    /// Puts the answers for this ticket and lesser ones behind the connections that wait. It says how
-    /// many.
+    /// Puts the answers for this ticket and lower ones behind the connections that wait, and
+    /// returns how many.
     fn fulfil(&mut self, ticket: u64) -> usize {
         let (count, mut put) = (self.promised.len(), 0usize);
         for _answer in 0..count {
@@ -138,8 +139,8 @@ impl Waiting {
         put
     }
 
-    /// Drops the connection that has waited longest for a worker, or else the oldest answer that waits,
-    /// or the oldest held pull. It says whether there was one.
+    /// Drops the connection that has waited longest for a worker; if there is none, the oldest
+    /// answer that waits; if there is none, the oldest held pull. Returns whether it dropped one.
     fn drop_first(&mut self) -> bool {
         if self.pop().is_some() {
             return true;
@@ -164,8 +165,8 @@ impl Waiting {
     }
 }
 
-// A connection that was served, as it waits for its end: to be sent the rest of its answer, or to be
-// read on.
+// Makes of a served connection one that waits for its end: the rest of its answer is to be sent, or
+// what its client still sends is to be read.
 fn to_close<R: Clock>(rt: &R, socket: SharedSocket) -> io::Result<PendingConnection> {
     let size = socket.size();
     let (stream, kept) = socket.into_parts();
@@ -201,7 +202,7 @@ impl AcceptQueue {
         }
     }
 
-    // Tells who looks how many wait, and who keeps an answer how much room is taken.
+    // Publishes how many connections wait and how much room is taken, for readers without the lock.
     fn tell(&self, waiting: &Waiting) -> usize {
         let count = waiting.pending.len();
         let told = if waiting.ended {
@@ -220,22 +221,22 @@ impl AcceptQueue {
         count
     }
 
-    /// Whether a worker may read a long request as it comes: half of them may.
+    /// Whether a worker may read a long request as it comes: half of the workers may.
     pub fn may_read_on(&self) -> bool {
         self.reading.load(Ordering::SeqCst) < MAX_READING
     }
 
-    /// Notes that a worker reads a long request as it comes.
+    /// Records that a worker reads a long request as it comes.
     pub fn note_reading(&self) {
         self.reading.fetch_add(1, Ordering::SeqCst);
     }
 
-    /// Notes that it has read it.
+    /// Records that a worker has read a long request.
     pub fn note_read(&self) {
         self.reading.fetch_sub(1, Ordering::SeqCst);
     }
 
-    // How much of the room is taken.
+    // Returns how much of the room is taken.
     fn room(&self) -> Room {
         Room {
             short: self.short.load(Ordering::SeqCst) as usize,
@@ -243,12 +244,12 @@ impl AcceptQueue {
         }
     }
 
-    /// Whether so much of an answer may wait here besides those that do.
+    /// Whether this share of an answer may wait here besides those that already do.
     pub(crate) fn may_keep(&self, share: Share) -> bool {
         self.room().may_keep(share)
     }
 
-    // Puts a connection last. It says how many wait, and whether the worker that looks takes this
+    // Puts a connection last. Returns how many wait, and whether the watching worker takes this
     // one.
     fn push<R: Wait>(&self, rt: &R, pending: PendingConnection) -> (usize, bool) {
         let mut waiting = self.waiting.lock(rt);
@@ -257,7 +258,7 @@ impl AcceptQueue {
         (count, waiting.watched && count <= 1)
     }
 
-    /// Puts a connection last that comes now. One for which there is no memory is closed.
+    /// Puts a new connection last. If memory runs out, it is closed.
     pub fn put<R: Wait>(&self, rt: &R, pending: PendingConnection) {
         let (_count, is_seen) = self.push(rt, pending);
         if !is_seen {
@@ -265,35 +266,37 @@ impl AcceptQueue {
         }
     }
 
-    /// How many connections wait.
+    /// Returns how many connections wait.
     pub fn waiting<R: Wait>(&self, rt: &R) -> u64 {
         self.waiting.lock(rt).pending.len() as u64
     }
 
-    /// Whether as many wait as may at which nobody has looked yet.
+    /// Whether the number of connections that nobody has looked at yet is at its limit.
     pub fn is_full<R: Wait>(&self, rt: &R) -> bool {
         self.waiting.lock(rt).unseen >= MAX_UNSEEN
     }
 
-    /// Puts a connection last of which nothing comes, and says how many wait. Whoever puts it back
-    /// looks at it again, so nobody is woken. One for which there is no memory is closed.
+    /// Puts a connection last from which nothing comes, and returns how many wait. The worker that
+    /// puts it back looks at it again, so nobody is woken. If memory runs out, the connection is
+    /// closed.
     pub fn put_back<R: Wait>(&self, rt: &R, pending: PendingConnection) -> usize {
         let (count, _is_seen) = self.push(rt, pending);
         count
     }
 
-    /// How often pulls that are held were freed.
+    /// Returns how often held pulls were freed.
     pub fn freed(&self) -> u64 {
         self.freed.load(Ordering::SeqCst)
     }
 
-    /// How many pulls are held.
+    /// Returns how many pulls are held.
     pub fn holding(&self) -> u64 {
         self.holding.load(Ordering::SeqCst)
     }
 
-    /// Holds a pull until `free`. Where that was called since `freed` was so great, a worker looks at it
-    /// again. An earlier one of the same node is served. One for which there is no memory is closed.
+    /// Holds a pull until `free`. If that was called since `freed` was read, a worker looks at the
+    /// pull again. An earlier pull of the same node is served. If memory runs out, the connection
+    /// is closed.
     pub fn hold<R: Wait>(&self, rt: &R, pending: PendingConnection, freed: u64) {
         let mut waiting = self.waiting.lock(rt);
         waiting.release(pending.asker());
@@ -305,7 +308,7 @@ impl AcceptQueue {
         let _count = self.tell(&waiting);
     }
 
-    /// Has workers look again at the pulls that are held.
+    /// Makes workers look again at the pulls that are held.
     pub fn free<R: Wait>(&self, rt: &R) {
         let mut waiting = self.waiting.lock(rt);
         self.freed.fetch_add(1, Ordering::SeqCst);
@@ -316,19 +319,19 @@ impl AcceptQueue {
         }
     }
 
-    /// How many answers wait until other nodes have what they show.
+    /// Returns how many answers wait until other nodes have what they show.
     pub fn promises(&self) -> u64 {
         self.promises.load(Ordering::SeqCst)
     }
 
-    /// Keeps an answer until those are sent that wait for its ticket (`fulfil`).
+    /// Keeps an answer until the answers for its ticket are sent (`fulfil`).
     pub fn keep<R: Wait>(&self, rt: &R, pending: PendingConnection) {
         let mut waiting = self.waiting.lock(rt);
         waiting.keep(pending);
         let _count = self.tell(&waiting);
     }
 
-    /// Has workers look again at the answers that wait for this ticket or a lesser one.
+    /// Makes workers look again at the answers that wait for this ticket or a lower one.
     pub fn fulfil<R: Wait>(&self, rt: &R, ticket: u64) {
         let mut waiting = self.waiting.lock(rt);
         let count = waiting.fulfil(ticket);
@@ -338,8 +341,9 @@ impl AcceptQueue {
         }
     }
 
-    /// Closes a connection that was served, so that its client gets the answer whole: what is left of
-    /// that is sent on from here, and what the client still sends is read on for a moment.
+    /// Closes a connection that was served in such a way that its client gets the whole answer: the
+    /// rest of the answer is sent from this queue, and what the client still sends is read for a
+    /// moment.
     pub fn close<R: Wait + Clock>(&self, rt: &R, socket: Rc<SharedSocket>) {
         if socket.kept() == 0 && socket.is_done() {
             return;
@@ -353,8 +357,8 @@ impl AcceptQueue {
         }
     }
 
-    /// Wakes a worker that sleeps, if connections wait: the one that looked at them has something
-    /// else to do now.
+    /// Wakes a sleeping worker if connections wait, because the worker that looked at them now has
+    /// something else to do.
     pub fn hand_on<R: Wait>(&self, rt: &R) {
         let is_wanted = self.wants_another(rt);
         if is_wanted {
@@ -362,13 +366,14 @@ impl AcceptQueue {
         }
     }
 
-    // Whether connections wait, and a worker sleeps.
+    // Whether connections wait and a worker sleeps.
     fn wants_another<R: Wait>(&self, rt: &R) -> bool {
         let waiting = self.waiting.lock(rt);
         !waiting.pending.is_empty() && waiting.asleep > 0
     }
 
-    /// Sleeps so long where nothing comes of all that wait, or until one comes or the run is over.
+    /// Sleeps for this long while nothing comes from any connection that waits, or until a new one
+    /// comes or the run is over.
     pub fn rest<R: Wait + Clock>(&self, rt: &R, time: Duration) {
         let mut waiting = self.waiting.lock(rt);
         if waiting.ended {
@@ -379,7 +384,7 @@ impl AcceptQueue {
         waiting.asleep = waiting.asleep.saturating_sub(1);
     }
 
-    // Looks for a connection for a moment.
+    // Watches for a connection for a moment.
     fn watch<R: Wait + Clock>(&self, rt: &R) {
         let Ok(began) = rt.monotonic() else {
             return;
@@ -397,7 +402,7 @@ impl AcceptQueue {
         }
     }
 
-    // Begins to look, unless something waits already or somebody else looks. It says whether it
+    // Begins to watch, unless something already waits or another worker watches. Returns whether it
     // did.
     fn begin_watching<R: Wait>(&self, rt: &R) -> bool {
         let mut waiting = self.waiting.lock(rt);
@@ -408,7 +413,7 @@ impl AcceptQueue {
         true
     }
 
-    /// The first connection. It waits for one, and gives none once the run is over.
+    /// Takes the first connection. It waits for one, and returns `None` once the run is over.
     pub fn take<R: Wait + Clock>(&self, rt: &R) -> Option<PendingConnection> {
         let watches = self.begin_watching(rt);
         if watches {
@@ -431,7 +436,7 @@ impl AcceptQueue {
         first
     }
 
-    /// The first connection, if one comes within this time; also where no run is on.
+    /// Takes the first connection, if one comes within this time, even while there is no run.
     pub fn take_within<R: Wait + Clock>(
         &self,
         rt: &R,
@@ -448,8 +453,8 @@ impl AcceptQueue {
         first
     }
 
-    /// Closes the connection that has waited longest, since no file is left. It says whether there was
-    /// one.
+    /// Closes the connection that has waited longest, because no file is left. Returns whether
+    /// there was one.
     pub fn close_first<R: Wait>(&self, rt: &R) -> bool {
         let mut waiting = self.waiting.lock(rt);
         let is_closed = waiting.drop_first();
@@ -460,12 +465,12 @@ impl AcceptQueue {
         is_closed
     }
 
-    /// How many connections were closed for want of files since this was last asked.
+    /// Returns how many connections were closed for lack of files since this was last asked.
     pub fn take_closed(&self) -> u64 {
         self.closed.swap(0, Ordering::SeqCst)
     }
 
-    /// Sends the workers home.
+    /// Makes the workers stop taking connections.
     pub fn end<R: Wait>(&self, rt: &R) {
         let mut waiting = self.waiting.lock(rt);
         waiting.ended = true;
@@ -476,7 +481,7 @@ impl AcceptQueue {
         self.came.notify_all();
     }
 
-    /// Lets the workers of the next run take.
+    /// Lets the workers of the next run take connections.
     pub fn begin<R: Wait>(&self, rt: &R) {
         let mut waiting = self.waiting.lock(rt);
         waiting.ended = false;

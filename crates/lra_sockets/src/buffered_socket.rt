@@ -1,4 +1,4 @@
-// A buffered reader and writer over one socket.
+// A buffered reader and a buffered writer over one socket.
 
 use crate::accept_queue::AcceptQueue;
 use crate::deadline_stream::{Cutoff, DeadlineStream, Limit};
@@ -14,25 +14,25 @@ use std::rc::Rc;
 use std::sync::Wait;
 use std::time::Clock;
 
-/// How many bytes are read or written at once: a frame of many fields makes no more calls of the
-/// system than that.
+/// How many bytes are read or written at once, so that a frame of many fields makes no more system
+/// calls than that needs.
 const BUFFER: usize = 8192;
 
 /// A buffered reader over a socket.
 pub type SocketReader<'a, R> = OverBuffer<BufReader<DeadlineStream<'a, R>>>;
 
-/// A buffered writer over a socket: a message of a head and a body leaves at once.
+/// A buffered writer over a socket: a message with a head and a body is sent at once.
 pub type SocketWriter<'a, R> = OverWrite<BufWriter<DeadlineStream<'a, R>>>;
 
-/// How long a message may take to be read, and how long one to be written.
+/// How long a message may take to be read, and how long to be written.
 #[derive(Clone, Copy)]
 pub struct Times {
     pub reading: Limit,
     pub writing: Limit,
 }
 
-/// A reader and a writer over one socket. They are made together, so that no reader of one socket
-/// is beside the writer of another.
+/// A reader and a writer over one socket. They are made together, so that the reader of one socket
+/// is never paired with the writer of another.
 #[derive(Drop)]
 pub struct BufferedSocket<'a, R: Wait + Clock> {
     reader: SocketReader<'a, R>,
@@ -41,8 +41,8 @@ pub struct BufferedSocket<'a, R: Wait + Clock> {
 }
 
 impl<'a, R: Wait + Clock> BufferedSocket<'a, R> {
-    /// Over this connection. What its client doesn't take at once of what is written goes to a
-    /// queue, if one is said, and so does all of an answer that waits for something.
+    /// Makes both over this connection. If a queue is given, it takes what the client doesn't
+    /// accept at once of what is written, and all of an answer that waits for something.
     pub fn new(
         rt: &'a R,
         alloc: Global,
@@ -68,7 +68,7 @@ impl<'a, R: Wait + Clock> BufferedSocket<'a, R> {
         })
     }
 
-    /// Its reader, its writer, and the socket that they share.
+    /// Returns the reader, the writer, and the socket that they share.
     pub fn into_parts(self) -> (SocketReader<'a, R>, SocketWriter<'a, R>, Rc<SharedSocket>) {
         let BufferedSocket {
             reader,

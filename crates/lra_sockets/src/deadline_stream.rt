@@ -12,21 +12,21 @@ use std::rc::Rc;
 use std::sync::Wait;
 use std::time::{Clock, Duration};
 
-/// How long one call of the system may wait for a connection. A read of one that is served waits
-/// less (`PendingConnection`).
+/// How long one system call may wait for a connection. A read of a connection that is being served
+/// waits less (`PendingConnection`).
 pub const SLICE_MS: u64 = 20;
 
-/// How many bytes an empty socket takes at once, at the least.
+/// The least number of bytes that an empty socket takes at once.
 const AT_ONCE: usize = 4096;
 
 /// How long an answer may still take once nobody waits for it any more.
 const GRACE_MS: u64 = 500;
 
-/// How many slices in a row take nothing of an answer that is to be kept before it is cut, where
-/// there is no room for it: a tenth of a second.
+/// How many slices in a row may take nothing of an answer for which there is no room, before it is
+/// cut: a tenth of a second.
 const MAX_STALLED: u32 = 5;
 
-// A silence of ten seconds takes 5,000 slices of 2 milliseconds.
+// Ten seconds of silence take 5,000 slices of 2 milliseconds.
 const MAX_TURNS: u32 = 10_000;
 
 /// How long a message may take, and for how long nothing of it may come or go.
@@ -34,12 +34,13 @@ const MAX_TURNS: u32 = 10_000;
 pub struct Limit {
     pub silence: Duration,
     pub whole: Duration,
-    /// Whether all of it has come. Then a read waits for nothing, and what is there ends the message.
+    /// Whether all of it has come. If so, a read waits for nothing, and the message ends with the
+    /// bytes that are there.
     pub has_come: bool,
 }
 
 impl Limit {
-    /// So many milliseconds for the whole message, also in silence.
+    /// Allows this many milliseconds for the whole message, even if it is silent for all of them.
     pub fn of_millis(whole: u64) -> Limit {
         let whole = Duration::from_millis(whole);
         Limit {
@@ -49,7 +50,7 @@ impl Limit {
         }
     }
 
-    /// So many milliseconds for a message of which all has come.
+    /// Allows this many milliseconds for a message of which everything has come.
     pub fn of_whole(whole: u64) -> Limit {
         let whole = Duration::from_millis(whole);
         Limit {
@@ -59,7 +60,7 @@ impl Limit {
         }
     }
 
-    /// So many milliseconds of silence, and of the whole message.
+    /// Allows this many milliseconds of silence, and for the whole message.
     pub fn of_silence(silence: u64, whole: u64) -> Limit {
         Limit {
             silence: Duration::from_millis(silence),
@@ -78,9 +79,9 @@ pub enum Cutoff {
     ProgramEnd,
 }
 
-/// A connection whose reads, or writes, of one message end: with `TimedOut` where the message takes
-/// too long. What its client doesn't take of an answer at once goes to a queue, if one is said and
-/// has room, and is sent on from there. An answer that waits for something is kept whole.
+/// A connection whose reads, or writes, of one message end: with `TimedOut` if the message takes
+/// too long. If a queue is given and has room, it takes what the client doesn't accept of an answer
+/// at once, and the rest is sent from there. An answer that waits for something is kept whole.
 #[derive(Drop)]
 pub struct DeadlineStream<'a, R: Wait + Clock> {
     rt: &'a R,
@@ -90,25 +91,25 @@ pub struct DeadlineStream<'a, R: Wait + Clock> {
     promise: Option<&'a Promise>,
     socket: Rc<SharedSocket>,
     limit: Limit,
-    /// When the whole message has to be over.
+    /// When the whole message must be over.
     until: Option<Duration>,
-    /// Until when something of it has to come or go.
+    /// Until when some of it must come or go.
     silent_until: Duration,
-    /// Whether something did since that was last looked at.
+    /// Whether some did since this was last looked at.
     has_moved: bool,
     hurried: bool,
     /// Whether something was read.
     has_read: bool,
     /// Whether something was written.
     wrote: bool,
-    /// Whether a write waits for a slice at most.
+    /// Whether a write waits for at most a slice.
     sliced: bool,
     /// How many slices in a row took nothing.
     stalled: u32,
 }
 
 impl<'a, R: Wait + Clock> DeadlineStream<'a, R> {
-    /// Over this connection. The message may take so long from the first call on.
+    /// Makes a stream over this connection. The time of the message begins with the first call.
     pub fn new(
         rt: &'a R,
         signal: &'a Signal,
@@ -145,12 +146,12 @@ impl<'a, R: Wait + Clock> DeadlineStream<'a, R> {
         }
     }
 
-    // Whether the run is over, and the next one waits for this connection.
+    // Whether the run is over, but the connection lives on in the next one.
     fn has_next_run(&self) -> bool {
         self.cutoff == Cutoff::RunEnd && self.is_hurried() && !self.signal.has_ended(self.rt)
     }
 
-    // Whether so many bytes of the answer may be kept for later, besides what is kept of it.
+    // Whether this many more bytes of the answer may be kept for later, besides those already kept.
     fn may_keep(&self, count: usize) -> bool {
         let kept = self.socket.kept().saturating_add(count);
         match self.queue {
@@ -179,20 +180,20 @@ impl<'a, R: Wait + Clock> DeadlineStream<'a, R> {
         }
     }
 
-    // Notes that a slice took nothing of an answer for which there is no room. It says whether the
-    // answer is to be cut, so that others are served.
+    // Counts a slice that took nothing of an answer for which there is no room. Returns whether the
+    // answer is to be cut so that others are served.
     fn is_crowded_out(&mut self) -> bool {
         self.stalled = self.stalled.saturating_add(1);
         self.queue.is_some() && self.stalled >= MAX_STALLED
     }
 
-    // Notes that something came or went.
+    // Records that something came or went.
     fn note_move(&mut self) {
         self.has_moved = true;
         self.stalled = 0;
     }
 
-    // Notes what a write came to.
+    // Records the result of a write.
     fn note_outcome(&mut self, outcome: &io::Result<usize>) {
         self.note_move();
         if let Ok(count) = outcome {
@@ -200,14 +201,14 @@ impl<'a, R: Wait + Clock> DeadlineStream<'a, R> {
         }
     }
 
-    // Notes what a read with so much room came to.
+    // Records the result of a read into a buffer of this size.
     fn note_read(&mut self, count: usize, room: usize) {
         self.has_read = true;
         self.socket.note_read(count, room);
         self.note_move();
     }
 
-    // Reads what is there, and waits for nothing. Where nothing is left, that is the end.
+    // Reads what is there, and waits for nothing. If nothing is left, that is the end.
     fn read_there(&mut self, buf: &mut [u8]) -> io::Result<usize>
         ensures { IfOk result (λ count. count ≤ length buf.new) }
     {
@@ -226,7 +227,7 @@ impl<'a, R: Wait + Clock> DeadlineStream<'a, R> {
         }
     }
 
-    // When the whole message has to be over, looked at now. Its time is cut short once.
+    // Returns when the whole message must be over, as seen now. Its time is cut short only once.
     fn ends_at(&mut self, now: Duration) -> Duration {
         let mut until = match self.until {
             Some(until) => until,
@@ -254,7 +255,8 @@ impl<'a, R: Wait + Clock> DeadlineStream<'a, R> {
         Ok(())
     }
 
-    // Has each write wait for a slice at most. A first one of few bytes waits for nothing.
+    // Makes each write wait for at most a slice. If the first write has few bytes, it needs no
+    // limit.
     fn limit_write(&mut self, count: usize) -> io::Result<()> {
         if !self.sliced && (self.wrote || count > AT_ONCE) {
             let slice = Duration::from_millis(SLICE_MS);

@@ -1,44 +1,46 @@
-// Requests that wait though they are whole: pulls, and commands at a start.
+// Whole requests that still have to wait: pulls, and commands during a start.
 
 use crate::window::body_of;
 use std::time::Duration;
 
-/// How a pull begins that says who asks: the number stands behind the key, before `&`.
+/// The start of a pull that says who asks: the node's number stands behind the key and before `&`.
 const PULL: &[u8] = b"POST /peer/pull?";
 
-/// What says who asks, and what says so of one that waits until there is something new.
+/// The key with which a pull says who asks, and the key of a pull that waits until there is
+/// something new.
 const ASKS: &[u8] = b"from=";
 
 const WAITS: &[u8] = b"wait=";
 
-/// How commands begin, up to the path. A pull begins so too.
+/// The starts of commands, up to the path. A pull begins in the same way.
 const COMMANDS: [&[u8]; 3] = [b"POST /", b"PUT /", b"DELETE /"];
 
-/// How a pull begins, whatever it says behind that.
+/// The start of any pull, whatever follows.
 const ANY_PULL: &[u8] = b"POST /peer/";
 
-/// In place of the number of a node that asks, where it is a command that is held.
+/// Stands in place of the asking node's number if a command is held.
 const NOBODY: u8 = 0;
 
-/// What becomes of a request that is whole.
+/// What happens to a whole request.
 #[derive(Clone, Copy, PartialEq, Eq, Debug)]
 pub enum Hold {
     /// It is served now.
     Serve,
-    /// It is, in some milliseconds.
+    /// It is served in some milliseconds.
     Soon,
-    /// It waits until its holder has something for it or it may be made, or for some seconds.
+    /// It waits until its holder has something for it or the command may be made, but at most for
+    /// some seconds.
     Later,
 }
 
-/// What becomes of an answer that waits until other nodes have what it shows.
+/// What happens to an answer that waits until other nodes have what it shows.
 #[derive(Clone, Copy, PartialEq, Eq, Debug)]
 pub enum Stand {
     /// It is sent now.
     Send,
-    /// It waits on.
+    /// It goes on waiting.
     Wait,
-    /// It is never sent: its client hears nothing.
+    /// It is never sent: its client gets no answer.
     Drop,
 }
 
@@ -47,25 +49,25 @@ pub enum Stand {
 pub struct Asked {
     /// The number of the node that asks, a digit.
     pub from: u8,
-    /// Whether it waits until there is something new.
+    /// Whether the pull waits until there is something new.
     pub waits: bool,
-    /// Since when it is held, if it is.
+    /// Since when it has been held, if it is.
     pub since: Option<Duration>,
 }
 
-/// Who keeps pulls, commands and answers waiting.
+/// Decides how long pulls, commands and answers wait.
 pub trait Holder {
-    /// What becomes of an answer that waits for a ticket since a moment.
+    /// Returns what happens to an answer that has waited for a ticket since a moment.
     fn stand(&self, ticket: u64, since: Duration) -> Stand;
 
-    /// What becomes of a pull with this query and this body.
+    /// Returns what happens to a pull with this query and this body.
     fn hold(&self, asked: &Asked, query: &[u8], body: &[u8]) -> Hold;
 
-    /// What becomes of a command, which is held since a moment, if it is.
+    /// Returns what happens to a command, which has been held since `since`, if it is held.
     fn hold_command(&self, since: Option<Duration>) -> Hold;
 }
 
-/// Keeps nobody waiting.
+/// A holder that makes nothing wait.
 #[derive(Clone, Copy)]
 pub struct NoHolder;
 
@@ -83,7 +85,7 @@ impl Holder for NoHolder {
     }
 }
 
-/// The query of a pull that has one, up to the space behind it.
+/// Returns the query of a pull that has one, up to the space behind it.
 fn query_in(bytes: &[u8]) -> &[u8] {
     let rest = match bytes.strip_prefix(PULL) {
         Some(rest) => rest,
@@ -93,7 +95,7 @@ fn query_in(bytes: &[u8]) -> &[u8] {
     rest.get(..end.unwrap_or(0)).unwrap_or(&[])
 }
 
-/// The digit behind a key of as many bytes as both have, before `&`.
+/// Returns the digit behind the key, if `&` follows. Both keys have equally many bytes.
 fn digit_in(query: &[u8]) -> Option<u8> {
     let (Some(digit), Some(next)) = (query.get(ASKS.len()), query.get(ASKS.len() + 1)) else {
         return None;
@@ -104,7 +106,7 @@ fn digit_in(query: &[u8]) -> Option<u8> {
     Some(digit.saturating_sub(b'0'))
 }
 
-/// Who asks by this query, where it says so.
+/// Returns who asks, if this query says it.
 fn asked_in(query: &[u8], since: Option<Duration>) -> Option<Asked> {
     let waits = query.starts_with(WAITS);
     if !waits && !query.starts_with(ASKS) {
@@ -120,8 +122,8 @@ fn is_command(bytes: &[u8]) -> bool {
     is_any && !bytes.starts_with(ANY_PULL)
 }
 
-/// Who asks by a whole request, and what becomes of it, if it is a pull that says so and isn't refused,
-/// or a command, which nobody asks.
+/// Returns who asks by a whole request, and what happens to it. The request must be either a pull
+/// that says who asks and isn't refused, or a command, which has no asking node.
 pub(crate) fn hold_of<H: Holder>(
     bytes: &[u8],
     since: Option<Duration>,

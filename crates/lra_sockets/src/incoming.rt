@@ -1,4 +1,4 @@
-// Connections that come to a port.
+// Takes in the connections that come to a port.
 
 use crate::accept_queue::AcceptQueue;
 use crate::pending_connection::PendingConnection;
@@ -9,24 +9,25 @@ use std::sync::Wait;
 use std::time::{Clock, Duration};
 use std::{io, thread};
 
-/// How long it waits where no connection can be had.
+/// How long to wait if no connection can be had.
 const PAUSE_MS: u64 = 10;
 
-/// How long it waits where too many wait to be looked at.
+/// How long to wait if too many connections wait to be looked at.
 const CROWDED_MS: u64 = 1;
 
-/// What the system answers where the process has no file left.
+/// The system's error if the process has no file left.
 const EMFILE: i32 = 24;
 
-/// What it answers where it has none itself.
+/// The system's error if the system itself has no file left.
 const ENFILE: i32 = 23;
 
-/// Whether no connection can be had since no file is left, for the process or the system.
+/// Whether no connection can be had because the process or the system has no file left.
 fn wants_files(error: &Error) -> bool {
     matches!(error.raw_os_error(), Some(EMFILE | ENFILE))
 }
 
-/// Waits while too many connections wait in a queue to be looked at, or until the program is to end.
+/// Waits while too many connections in a queue wait to be looked at, or until the program is to
+/// end.
 pub fn wait_for_room<R: Wait + Clock>(rt: &R, signal: &Signal, queue: &AcceptQueue) {
     for _ in rt.forever() {
         if !queue.is_full(rt) || signal.has_ended(rt) {
@@ -36,15 +37,15 @@ pub fn wait_for_room<R: Wait + Clock>(rt: &R, signal: &Signal, queue: &AcceptQue
     }
 }
 
-/// Puts a connection on a queue that comes now.
+/// Puts a new connection on a queue.
 fn put<R: Wait + Clock>(rt: &R, queue: &AcceptQueue, stream: TcpStream) {
     if let Ok(pending) = PendingConnection::new(rt, stream) {
         queue.put(rt, pending);
     }
 }
 
-/// Puts a connection on a queue, where one came. Where no file is left for it, the one that has
-/// waited longest there is closed.
+/// Puts the connection that came, if any, on a queue. If no file is left for it, the connection
+/// that has waited longest there is closed.
 pub fn take_in<R: Wait + Clock>(rt: &R, queue: &AcceptQueue, came: io::Result<TcpStream>) {
     match came {
         Ok(stream) => put(rt, queue, stream),
@@ -57,8 +58,9 @@ pub fn take_in<R: Wait + Clock>(rt: &R, queue: &AcceptQueue, came: io::Result<Tc
     }
 }
 
-/// Puts a connection on a queue that goes before others. Where no file is left for it, one of the
-/// others is closed, and one of its own only where none of them waits; then the next may come at once.
+/// Puts the connection that came on a queue that takes precedence over another. If no file is left
+/// for it, a connection of the other queue is closed, and one of this queue only if none waits in
+/// the other; then the next connection may come at once.
 pub fn take_in_first<R: Wait + Clock>(
     rt: &R,
     queue: &AcceptQueue,

@@ -1,5 +1,5 @@
-//! A connection's life: where nodes listen and are reached, what waits for a worker, streams that
-//! give up in time, and the signal that has them end.
+//! A connection's life: where nodes listen and are reached, the queue of connections that wait for
+//! a worker, streams that give up in time, and the signal that ends them.
 #![tactic(auto)]
 
 mod accept_queue;

@@ -8,7 +8,8 @@ use std::io::{ErrorKind, Read, Write};
 use std::net::{Shutdown, TcpStream};
 use std::time::{Clock, Duration};
 
-/// How long a read of a connection waits, and so the first look for its request: most come with it.
+/// How long a read of a connection waits, and so also the first look for its request: most requests
+/// come with the connection.
 const FIRST_LOOK_MS: u64 = 2;
 
 /// How long a connection may send nothing.
@@ -17,22 +18,22 @@ const SILENCE_MS: u64 = 30_000;
 /// How long a request may take to come once it has begun.
 pub const REQUEST_MS: u64 = 5_000;
 
-/// How long a pull is held at most. Who asks waits little longer.
+/// How long a pull is held at most. The asking node waits only a little longer.
 const HELD_MS: u64 = 5_000;
 
-/// How long a connection that is served is kept for what its client still sends.
+/// How long a connection that was served is kept for what its client still sends.
 const LINGER_MS: u64 = 1_000;
 
-/// How long a client may take nothing of the rest of its answer.
+/// How long a client may accept nothing of the rest of its answer.
 const IDLE_MS: u64 = 10_000;
 
-/// How long it may take for that in all.
+/// How long the client may take for that in all.
 const SENDING_MS: u64 = 300_000;
 
-/// The interim answer for which a client waits that asks for it before it sends the body.
+/// The interim answer for a client that asks for it before it sends the body.
 const CONTINUE: &[u8] = b"HTTP/1.1 100 Continue\r\n\r\n";
 
-/// The rest of an answer: these bytes from a place on, which are sent until a moment.
+/// The rest of an answer: these bytes from a position on, which are sent until a moment.
 #[derive(Drop)]
 struct Rest {
     bytes: Vec<u8>,
@@ -40,11 +41,11 @@ struct Rest {
     ends: Duration,
     /// Whether nothing is left of the request that its client could still send.
     is_done: bool,
-    /// What it takes of the room until all is sent.
+    /// The share of the room that it takes until all is sent.
     share: Share,
 }
 
-/// An answer that waits for a ticket since a moment.
+/// An answer that has waited for a ticket since a moment.
 #[derive(Drop)]
 struct Promised {
     bytes: Vec<u8>,
@@ -53,30 +54,30 @@ struct Promised {
     since: Duration,
 }
 
-/// What becomes of a request that is long.
+/// What happens to a long request.
 #[derive(Clone, Copy, PartialEq, Eq)]
 enum LongOnes {
     /// A worker reads it as it comes.
     Read,
-    /// It waits until one may.
+    /// It waits until a worker may read it.
     Wait,
-    /// It is refused, and nothing of it read.
+    /// It is refused, and nothing of it is read.
     Refuse,
 }
 
-/// What a write of the rest of an answer comes to.
+/// The result of writing the rest of an answer.
 #[derive(Clone, Copy, PartialEq, Eq)]
 enum Sent {
     All,
     Part,
-    /// The client has taken nothing since.
+    /// The client accepted nothing.
     Nothing,
-    /// It is gone.
+    /// The client is gone.
     Failed,
 }
 
 impl Promised {
-    /// What it takes of the room: nothing of it is sent yet.
+    /// Returns the share of the room that it takes: nothing of it is sent yet.
     fn share(&self) -> Share {
         Share::of(self.bytes.len(), self.bytes.len())
     }
@@ -102,35 +103,36 @@ impl Rest {
         }
     }
 
-    /// Until when the client has to take more of it that took some now.
+    /// Returns the time by which a client that accepted some of it now must accept more.
     fn until(&self, now: Duration) -> Duration {
         now.saturating_add(Duration::from_millis(IDLE_MS))
             .min(self.ends)
     }
 }
 
-/// What is still to come of a connection.
+/// What is still to come on a connection.
 #[derive(Drop)]
 enum Stage {
-    /// Its request, for which nobody has looked yet.
+    /// Its request, which nobody has looked for yet.
     Accepted,
     /// Its request.
     Awaiting,
     /// The rest of its request.
     Reading,
-    /// It is a pull of the node of this number, or a command (0), which is held since this moment.
+    /// It sent a pull of the node with this number, or a command (0), which has been held since
+    /// this moment.
     Held(u8, Duration),
-    /// It is one that isn't held any longer, as that node has sent another.
+    /// It sent a pull that is no longer held, because that node has sent another.
     Released,
-    /// Its answer, once other nodes have what that shows.
+    /// Its answer, once other nodes have what the answer shows.
     Promised(Promised),
-    /// The rest of its answer goes to the client.
+    /// The rest of its answer, which is being sent to the client.
     Sending(Rest),
     /// Its end: it has its answer.
     Closing,
 }
 
-/// A connection, what is to come of it, and until when.
+/// A connection, what is still to come on it, and until when.
 #[derive(Drop)]
 pub struct PendingConnection {
     stream: TcpStream,
@@ -140,19 +142,19 @@ pub struct PendingConnection {
     had_continue: bool,
 }
 
-/// What a look at a connection finds.
+/// The result of a look at a connection.
 #[derive(Drop)]
 pub enum Readiness {
-    /// A whole request is there, or what a worker is to refuse: it may serve it, and has nothing to
-    /// wait for.
+    /// A whole request is there, or one that a worker is to refuse. A worker may serve it, and
+    /// needn't wait for anything.
     Whole(TcpStream),
     /// A long request has begun: a worker may read it as it comes.
     Long(TcpStream),
-    /// Nothing is there yet, or no whole request; or a pull that is to be served in a moment.
+    /// No whole request is there yet; or there is a pull that is to be served in a moment.
     Pending(PendingConnection),
-    /// A pull is there, or an answer, that is to wait until there is something for it.
+    /// A pull or an answer is there that is to wait until there is something for it.
     Held(PendingConnection),
-    /// It is over.
+    /// The connection is over.
     Closed,
 }
 
@@ -170,7 +172,7 @@ impl Stage {
         matches!(self, Stage::Accepted)
     }
 
-    /// What its answer takes of the room, if it has one.
+    /// Returns the share of the room that its answer takes, if it has one.
     fn share(&self) -> Share {
         match self {
             Stage::Sending(rest) => rest.share,
@@ -179,7 +181,7 @@ impl Stage {
         }
     }
 
-    /// The ticket for which an answer waits.
+    /// Returns the ticket for which an answer waits.
     fn ticket(&self) -> Option<u64> {
         match self {
             Stage::Promised(promised) => Some(promised.ticket),
@@ -187,7 +189,7 @@ impl Stage {
         }
     }
 
-    /// The number of the node whose pull is held, if one is.
+    /// Returns the number of the node whose pull is held, if one is.
     fn asker(&self) -> Option<u8> {
         match self {
             Stage::Held(from, _since) if *from > 0 => Some(*from),
@@ -195,7 +197,7 @@ impl Stage {
         }
     }
 
-    /// Since when it is.
+    /// Returns since when it has been held.
     fn since(&self) -> Option<Duration> {
         match self {
             Stage::Held(_from, since) => Some(*since),
@@ -205,7 +207,7 @@ impl Stage {
 }
 
 impl PendingConnection {
-    /// A connection that comes now.
+    /// Makes a connection that has just come.
     pub fn new<R: Clock>(rt: &R, stream: TcpStream) -> io::Result<PendingConnection> {
         let until = rt
             .monotonic()?
@@ -223,23 +225,23 @@ impl PendingConnection {
         self.stage.is_unseen()
     }
 
-    /// What its answer takes of the room.
+    /// Returns the share of the room that its answer takes.
     pub(crate) fn share(&self) -> Share {
         self.stage.share()
     }
 
-    /// The number of the node whose pull is held, if one is.
+    /// Returns the number of the node whose pull is held, if one is.
     pub(crate) fn asker(&self) -> Option<u8> {
         self.stage.asker()
     }
 
-    /// Holds its pull no longer: it is served at the next look.
+    /// Stops holding its pull, which is served at the next look.
     pub(crate) fn release(&mut self) {
         self.stage = Stage::Released;
     }
 
-    /// A connection that has its answer. What its client still sends is read on for a moment, so
-    /// that the answer reaches it; none where the client is gone already.
+    /// Makes a connection that has its answer. What its client still sends is read for a moment, so
+    /// that the answer reaches it. Fails if the client is already gone.
     pub fn closing<R: Clock>(rt: &R, stream: TcpStream) -> io::Result<PendingConnection> {
         stream.shutdown(Shutdown::Write)?;
         stream.set_nonblocking(true)?;
@@ -254,8 +256,8 @@ impl PendingConnection {
         })
     }
 
-    /// A connection of whose answer, which has so many bytes in all, these are still to be sent, as
-    /// long as its client takes some of them.
+    /// Makes a connection with the rest of an answer, which has `size` bytes in all. These bytes
+    /// are still sent as long as its client accepts some of them.
     pub(crate) fn sending<R: Clock>(
         rt: &R,
         stream: TcpStream,
@@ -267,7 +269,7 @@ impl PendingConnection {
         PendingConnection::with_rest(rt, stream, bytes, false, share)
     }
 
-    // One of whose answer these bytes are still to be sent, where no look waits.
+    // Makes a connection with the rest of an answer, on which no look waits.
     fn with_rest<R: Clock>(
         rt: &R,
         stream: TcpStream,
@@ -291,8 +293,8 @@ impl PendingConnection {
         })
     }
 
-    /// A connection whose answer has these bytes and waits for a ticket. Its client could still send
-    /// something, or couldn't.
+    /// Makes a connection whose answer has these bytes and waits for a ticket. `is_done` says that
+    /// its client can't still send something.
     pub fn promised<R: Clock>(
         rt: &R,
         stream: TcpStream,
@@ -316,12 +318,12 @@ impl PendingConnection {
         })
     }
 
-    /// The ticket for which its answer waits, if it does.
+    /// Returns the ticket for which its answer waits, if it does.
     pub fn ticket(&self) -> Option<u64> {
         self.stage.ticket()
     }
 
-    // Keeps it until its time is up.
+    // Keeps the connection until its time is up.
     fn keep_or_drop<R: Clock>(self, rt: &R) -> Readiness {
         match rt.monotonic() {
             Ok(now) if now < self.until => Readiness::Pending(self),
@@ -329,12 +331,12 @@ impl PendingConnection {
         }
     }
 
-    // Has no look wait from here on. It says whether that can be had.
+    // Makes looks no longer wait from here on. Returns whether the system allows that.
     fn stop_waiting(&mut self) -> bool {
         !self.stage.is_unseen() || self.stream.set_nonblocking(true).is_ok()
     }
 
-    // Keeps it, since nothing has come yet. From here on no look waits.
+    // Keeps the connection, because nothing has come yet. From here on no look waits.
     fn keep<R: Clock>(mut self, rt: &R) -> Readiness {
         if !self.stop_waiting() {
             return Readiness::Closed;
@@ -343,7 +345,7 @@ impl PendingConnection {
         self.keep_or_drop(rt)
     }
 
-    // Holds the pull of a node. From here on no look waits.
+    // Holds the pull of a node, to be served in a moment. From here on no look waits.
     fn hold<R: Clock>(mut self, rt: &R, from: u8) -> Readiness {
         if self.stage.since().is_some() {
             return self.keep_or_drop(rt);
@@ -359,7 +361,7 @@ impl PendingConnection {
         Readiness::Pending(self)
     }
 
-    // Holds it until there is something for it.
+    // Holds the pull until there is something for it.
     fn hold_on<R: Clock>(self, rt: &R, from: u8) -> Readiness {
         match self.hold(rt, from) {
             Readiness::Pending(pending) => Readiness::Held(pending),
@@ -367,7 +369,7 @@ impl PendingConnection {
         }
     }
 
-    // Waits for the rest of a request. The time for that goes from here; when it is over, the
+    // Waits for the rest of a request. The time for that begins now; when it is over, the
     // connection is closed.
     fn await_rest<R: Clock>(mut self, rt: &R) -> Readiness {
         let Ok(now) = rt.monotonic() else {
@@ -387,7 +389,7 @@ impl PendingConnection {
         Readiness::Pending(self)
     }
 
-    // Looks at what has come of a request, and leaves it. Most requests fit into a glance.
+    // Looks at what has come of a request, without consuming it. Most requests fit into a glance.
     fn peek<R: Clock, H: Holder>(self, rt: &R, long: LongOnes, holder: &H) -> Readiness {
         let mut bytes = [0u8; GLANCE];
         match self.stream.peek(&mut bytes) {
@@ -396,14 +398,15 @@ impl PendingConnection {
         }
     }
 
-    // The same, of a longer one.
+    // Does the same for a longer request.
     fn peek_far<R: Clock, H: Holder>(self, rt: &R, long: LongOnes, holder: &H) -> Readiness {
         let mut bytes = [0u8; WINDOW];
         let came = self.stream.peek(&mut bytes);
         self.look_at_peeked(rt, came, &bytes, long, holder)
     }
 
-    // What becomes of it by what a look at its socket came to: so many bytes at the start of these.
+    // Decides what happens to the connection by the result of a look at its socket: how many bytes
+    // came, at the start of `bytes`.
     fn look_at_peeked<R: Clock, H: Holder>(
         self,
         rt: &R,
@@ -421,7 +424,8 @@ impl PendingConnection {
         }
     }
 
-    // What becomes of these bytes of its request, where they are a whole pull that may wait.
+    // Returns what happens to these bytes of its request, if they are a whole pull or command that
+    // may have to wait.
     fn judged<H: Holder>(&self, bytes: &[u8], extent: Extent, holder: &H) -> Option<(u8, Hold)> {
         if extent != Extent::Whole || matches!(self.stage, Stage::Released) {
             return None;
@@ -429,8 +433,8 @@ impl PendingConnection {
         hold_of(bytes, self.stage.since(), holder)
     }
 
-    // Hands the connection over if these bytes of its request are enough, unless they are a pull that
-    // is to wait.
+    // Hands the connection over if these bytes of its request are enough, unless the request is to
+    // wait.
     fn look_at<R: Clock, H: Holder>(
         self,
         rt: &R,
@@ -446,7 +450,7 @@ impl PendingConnection {
         }
     }
 
-    // Sends its client the interim answer 100, once. It says whether that went well.
+    // Sends its client the interim answer 100, once. Returns whether that went well.
     fn send_continue(&mut self) -> bool {
         if self.had_continue {
             return true;
@@ -455,8 +459,8 @@ impl PendingConnection {
         is_sent(&self.stream, CONTINUE)
     }
 
-    // Goes on by what a look at its request shows. A client that waits for the interim answer gets it,
-    // unless its request is refused.
+    // Goes on by what a look at its request shows. A client that waits for the interim answer gets
+    // it, unless its request is refused.
     fn go_by<R: Clock>(mut self, rt: &R, sight: Sight, long: LongOnes) -> Readiness {
         let is_refused = sight.extent == Extent::Long && long == LongOnes::Refuse;
         if sight.awaits_continue && !is_refused && !self.send_continue() {
@@ -465,7 +469,8 @@ impl PendingConnection {
         self.hand_over(rt, sight.extent, long)
     }
 
-    // Hands the connection over if so much of its request is enough. A long one may have to wait.
+    // Hands the connection over if this much of its request is enough. A long request may have to
+    // wait.
     fn hand_over<R: Clock>(self, rt: &R, extent: Extent, long: LongOnes) -> Readiness {
         let is_long = extent == Extent::Long;
         if extent == Extent::Part || (is_long && long == LongOnes::Wait) {
@@ -478,7 +483,7 @@ impl PendingConnection {
         }
     }
 
-    // The connection, of which a read waits again.
+    // Returns the connection, with reads that wait again.
     fn into_blocking(self) -> Option<TcpStream> {
         let PendingConnection {
             stream,
@@ -492,7 +497,7 @@ impl PendingConnection {
         Some(stream)
     }
 
-    // Has its time begin anew, as its client took some of its answer.
+    // Restarts its time, because its client accepted some of its answer.
     fn go_on<R: Clock>(mut self, rt: &R) -> Readiness {
         if let (Ok(now), Stage::Sending(rest)) = (rt.monotonic(), &self.stage) {
             self.until = rest.until(now);
@@ -515,7 +520,7 @@ impl PendingConnection {
         }
     }
 
-    // Sends its answer, if it needn't wait any longer.
+    // Sends its answer, if that needn't wait any longer.
     fn stand<R: Clock, H: Holder>(self, rt: &R, holder: &H) -> Readiness {
         let stand = match &self.stage {
             Stage::Promised(promised) => holder.stand(promised.ticket, promised.since),
@@ -553,7 +558,7 @@ impl PendingConnection {
         }
     }
 
-    // Closes it. What its client still sends is read on for a moment.
+    // Closes it. What its client still sends is read for a moment.
     fn begin_closing<R: Clock>(self, rt: &R) -> Readiness {
         let PendingConnection {
             stream,
@@ -567,7 +572,7 @@ impl PendingConnection {
         }
     }
 
-    // Reads on after the request.
+    // Reads what comes behind the request.
     fn drain<R: Clock>(mut self, rt: &R) -> Readiness {
         let mut bytes = [0u8; 4096];
         match self.stream.read(&mut bytes) {
@@ -579,7 +584,7 @@ impl PendingConnection {
         }
     }
 
-    // The first look. It says how long a read waits, here and later.
+    // Looks for the first time. It sets how long a read waits, here and later.
     fn first_look<R: Clock, H: Holder>(self, rt: &R, long: LongOnes, holder: &H) -> Readiness {
         let wait = Duration::from_millis(FIRST_LOOK_MS);
         match self.stream.set_read_timeout(Some(wait)) {
@@ -588,7 +593,7 @@ impl PendingConnection {
         }
     }
 
-    // Looks at what has come, or sends on.
+    // Looks at what has come, or sends more.
     fn look_by<R: Clock, H: Holder>(self, rt: &R, long: LongOnes, holder: &H) -> Readiness {
         match self.stage {
             Stage::Accepted => self.first_look(rt, long, holder),
@@ -601,9 +606,9 @@ impl PendingConnection {
         }
     }
 
-    /// Looks at what has come, or sends on. The first look waits a little for something, and others
-    /// for nothing. A long request is there for a worker where one may read on, and a pull once its
-    /// holder keeps it waiting no longer. An answer that waits is sent then too.
+    /// Looks at what has come, or sends more. The first look waits a little for something to come,
+    /// the others for nothing. A long request is ready for a worker if one may read on, and a pull
+    /// once its holder no longer makes it wait. An answer that needn't wait any longer is sent too.
     pub fn look<R: Clock, H: Holder>(self, rt: &R, reads_on: bool, holder: &H) -> Readiness {
         let long = if reads_on {
             LongOnes::Read
@@ -613,8 +618,8 @@ impl PendingConnection {
         self.look_by(rt, long, holder)
     }
 
-    /// Looks as `look` does, for a thread that serves all connections by itself: no look waits, no pull
-    /// is held, and a long request is there to be refused.
+    /// Looks like `look`, for a thread that serves all connections by itself: no look waits, no
+    /// pull is held, and a long request is handed over to be refused.
     pub fn look_at_once<R: Clock>(mut self, rt: &R) -> Readiness {
         if self.stage.is_unseen() {
             if !self.stop_waiting() {

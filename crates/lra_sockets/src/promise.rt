@@ -1,23 +1,24 @@
-// For what the answer that a worker writes has to wait.
+// What the answer that a worker writes must wait for.
 
 use std::cell::Cell;
 
-/// For what the answer that a worker writes has to wait: the ticket of a fact that other nodes are to
-/// have. The clerk makes it, and who writes the answer keeps that back. One thread has it.
+/// What the answer that a worker writes must wait for: the ticket of a fact that other nodes are to
+/// have. The clerk sets it, and the writer of the answer holds the answer back. It belongs to one
+/// thread.
 #[derive(Drop)]
 pub struct Promise {
     ticket: Cell<u64>,
 }
 
 impl Promise {
-    /// The answer waits for nothing.
+    /// Makes a promise with which the answer waits for nothing.
     pub fn new() -> Promise {
         Promise {
             ticket: Cell::new(0),
         }
     }
 
-    /// Has the answer wait for this ticket too; for nothing more where that is 0.
+    /// Makes the answer wait for this ticket too; a ticket of 0 adds nothing.
     pub fn make(&self, ticket: u64) {
         self.ticket.set(self.ticket.get().max(ticket));
     }
@@ -27,7 +28,8 @@ impl Promise {
         self.ticket.get() > 0
     }
 
-    /// For which ticket it waits; 0 for none. The next answer waits for nothing.
+    /// Takes the ticket for which the answer waits; 0 if there is none. The next answer waits for
+    /// nothing.
     pub fn take(&self) -> u64 {
         self.ticket.replace(0)
     }

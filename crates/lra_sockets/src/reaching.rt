@@ -1,5 +1,5 @@
-// Connections to one of several addresses, within a time. They go by the host's own handle: `log`'s
-// answers that it can neither connect within a time nor look a name up.
+// Connects to one of several addresses within a time. The connections use the host's own handle,
+// because `log`'s can neither connect within a time nor look up a name.
 ghost use Rattle.std.specs.Iterator.{IsFinite};
 
 use crate::signal::Signal;
@@ -10,15 +10,15 @@ use std::net::{Net, SocketAddr, TcpStream};
 use std::sync::Wait;
 use std::time::{Clock, Duration};
 
-/// How long a try of an address takes at most in the first round over all. It doubles with each
-/// round.
+/// How long an attempt at one address may take in the first round over all addresses. It doubles
+/// with each round.
 const FIRST_TRY_MS: u64 = 500;
 
-/// How long at most in a later one, so that the program's end waits no longer.
+/// How long an attempt may take in a later round, so that the program's end needn't wait longer.
 const LAST_TRY_MS: u64 = 1_500;
 
-/// A connection to one address, tried for so long, and not beyond this moment; none where the
-/// program is to end.
+/// Connects to one address, for at most `time`, and not beyond `until`. Fails if the program is to
+/// end.
 fn connect_until<R: Wait + Clock + Net<Stream = TcpStream>>(
     rt: &R,
     signal: &Signal,
@@ -33,8 +33,8 @@ fn connect_until<R: Wait + Clock + Net<Stream = TcpStream>>(
     TcpStream::connect_timeout(rt, address, left.min(time))
 }
 
-/// One round: the first of some addresses that answers. Where none does and one was silent, that is
-/// why; a longer try may reach it.
+/// Makes one round: connects to the first of the addresses that answers. If none does and one was
+/// silent, that is the error, because a longer attempt may reach it.
 fn try_each<R: Wait + Clock + Net<Stream = TcpStream>>(
     rt: &R,
     signal: &Signal,
@@ -53,7 +53,7 @@ fn try_each<R: Wait + Clock + Net<Stream = TcpStream>>(
     Err(last)
 }
 
-/// All of some addresses.
+/// Collects all addresses.
 fn all_of<A: Iterator<Item = SocketAddr>>(
     alloc: Global,
     addresses: A,
@@ -67,8 +67,9 @@ fn all_of<A: Iterator<Item = SocketAddr>>(
     Ok(all)
 }
 
-/// The first of some addresses that answers. Each has a short try, and those that are silent a
-/// longer one once all had theirs, until this time is over for all of them together.
+/// Connects to the first of some addresses that answers. Each gets a short attempt, and those that
+/// are silent a longer one after all have had theirs, until the time for all of them together is
+/// over.
 pub fn connect_to_one<R: Wait + Clock + Net<Stream = TcpStream>, A: Iterator<Item = SocketAddr>>(
     rt: &R,
     alloc: Global,

@@ -1,4 +1,4 @@
-// How much room the answers take that wait to be sent.
+// Counts the room that answers take which wait to be sent.
 ghost use Rattle.std.specs.Prelude.{◌≡◌};
 ghost use Rattle.lra_sockets.specs.Rooms.{has_room, is_long, share_of, with_share, without_share};
 
@@ -7,26 +7,26 @@ use lra_http::{MAX_BODY_BYTES, MAX_HEAD_BYTES};
 /// The most bytes of a short answer. Only a frame, which goes to another node, has a longer body.
 const SHORT_MOST: usize = MAX_BODY_BYTES + MAX_HEAD_BYTES;
 
-/// The most bytes that wait of all long answers: two frames of full homes with the longest links, or
-/// a dozen of common ones.
+/// The most bytes of all long answers that wait: two frames of full homes with the longest links,
+/// or a dozen common ones.
 const LONG_ROOM: usize = 64 << 20;
 
-/// The most bytes that wait of all short answers: 800 of the longest. A process has some 1,000 files
-/// where nobody says otherwise, so it runs out of connections before.
+/// The most bytes of all short answers that wait: 800 of the longest. A process has some 1,000
+/// files by default, so it runs out of connections first.
 const SHORT_ROOM: usize = 64 << 20;
 
-/// What an answer takes of the room.
+/// The share of the room that an answer takes.
 #[derive(Clone, Copy, PartialEq, Eq, Debug)]
 pub struct Share {
     /// How many of its bytes wait.
     pub bytes: usize,
-    /// Whether all of it, with what was sent, is long. So the rest of a frame never counts as a short
-    /// answer.
+    /// Whether the whole answer, including what was already sent, is long. So the rest of a frame
+    /// never counts as a short answer.
     pub is_long: bool,
 }
 
-/// How many bytes of answers wait to be sent. Long ones have a room of their own, so that a peer that
-/// doesn't read its frame takes no room from other clients' answers.
+/// How many bytes of answers wait to be sent. Long answers have a room of their own, so that a peer
+/// that doesn't read its frame takes no room from the answers of other clients.
 #[derive(Clone, Copy, PartialEq, Eq, Debug)]
 pub struct Room {
     pub short: usize,
@@ -41,7 +41,7 @@ pub fn is_long(size: usize) -> bool
 }
 
 impl Share {
-    /// That of an answer of this size, of which so many bytes wait.
+    /// Returns the share of an answer of this size, of which `kept` bytes wait.
     pub fn of(size: usize, kept: usize) -> Share
         ensures { result ≡ share_of size kept }
     {
@@ -53,7 +53,7 @@ impl Share {
 }
 
 impl Room {
-    /// The room where this waits too.
+    /// Returns the room with this share added.
     pub fn with(self, share: Share) -> Room
         ensures { result ≡ with_share share self }
     {
@@ -70,7 +70,7 @@ impl Room {
         }
     }
 
-    /// The room where this waits no longer.
+    /// Returns the room without this share.
     pub fn without(self, share: Share) -> Room
         ensures { result ≡ without_share share self }
     {
@@ -87,7 +87,7 @@ impl Room {
         }
     }
 
-    /// Whether this may wait too.
+    /// Whether this share may wait too.
     pub fn may_keep(self, share: Share) -> bool
         ensures { result ≡ has_room share self }
     {

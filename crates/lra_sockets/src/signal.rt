@@ -1,12 +1,12 @@
-// What tells the threads of a node that its run is over.
+// Signals to the threads of a node that its run is over.
 ghost use Rattle.std.specs.Prelude.{◌≡◌};
 ghost use Rattle.lra_sockets.specs.Stops.{weight, weightier};
 
 use std::sync::{Condvar, CondvarTimeouts, Mutex, Wait};
 use std::time::{Clock, Duration};
 
-/// Why a run is over. It has cases of its own, since under `Mutex::new` no value of an enum that
-/// holds a `Refusal` can be made (a bug of this kit).
+/// Why a run is over. It doesn't hold a `Refusal`, because no enum value with a `Refusal` in it can
+/// be made under `Mutex::new` (a bug of this kit).
 #[derive(Clone, Copy, PartialEq, Eq, Debug)]
 pub enum StopReason {
     /// The program is to end.
@@ -21,7 +21,7 @@ pub enum StopReason {
     RunFull,
     /// A call met E21 with this number.
     TrailLost(u64),
-    /// No thread or no memory could be had.
+    /// No thread or no memory was to be had.
     Starved,
 }
 
@@ -39,7 +39,7 @@ impl StopReason {
     }
 }
 
-/// Which cause stands beside one that may stand already.
+/// Returns which cause stands, given one that may stand already.
 fn weightier(was: Option<StopReason>, why: StopReason) -> StopReason
     ensures { result ≡ weightier was why }
 {
@@ -49,16 +49,16 @@ fn weightier(was: Option<StopReason>, why: StopReason) -> StopReason
     }
 }
 
-/// Says whether the run is over, and why. It outlives the runs of its node.
+/// Says whether the run is over, and why. The signal outlives the runs of its node.
 #[derive(Drop)]
 pub struct Signal {
     reason: Mutex<Option<StopReason>>,
-    /// Wakes who rests, at the program's end.
+    /// Wakes a node that rests, at the program's end.
     told: Condvar,
 }
 
 impl Signal {
-    /// Of a run that goes on.
+    /// Makes the signal of a run that goes on.
     pub fn new() -> Signal {
         Signal {
             reason: Mutex::new(None),
@@ -66,8 +66,8 @@ impl Signal {
         }
     }
 
-    /// Ends the run, if nobody did before, and says whether it was so. Of several causes the
-    /// weightiest stands, whatever their order.
+    /// Ends the run, and returns whether it wasn't already ended. Of several causes the weightiest
+    /// stands, in whatever order they come.
     pub fn end<R: Wait>(&self, rt: &R, why: StopReason) -> bool {
         let mut reason = self.reason.lock(rt);
         let was = *reason;
@@ -76,7 +76,7 @@ impl Signal {
         was.is_none()
     }
 
-    /// Rests so long, or until the program is to end.
+    /// Rests for this long, or until the program is to end.
     pub fn rest<R: Wait + Clock>(&self, rt: &R, time: Duration) {
         let _rested = self
             .told
@@ -85,7 +85,7 @@ impl Signal {
             });
     }
 
-    /// Why the run is over, if it is.
+    /// Returns why the run is over, if it is.
     pub fn stop_reason<R: Wait>(&self, rt: &R) -> Option<StopReason> {
         *self.reason.lock(rt)
     }
@@ -95,7 +95,7 @@ impl Signal {
         self.stop_reason(rt) == Some(StopReason::Program)
     }
 
-    /// Lets the next run begin, unless the program is to end. It says whether it may begin.
+    /// Lets the next run begin, unless the program is to end. Returns whether it may begin.
     pub fn begin<R: Wait>(&self, rt: &R) -> bool {
         let mut reason = self.reason.lock(rt);
         if *reason == Some(StopReason::Program) {

@@ -12,13 +12,13 @@ use std::net::{IpAddr, Ipv4Addr, Ipv6Addr, Net, SocketAddr, TcpStream, ToSocketA
 use std::sync::{Arc, Wait};
 use std::time::{Clock, Duration};
 
-/// How long another node of this process may take to be reached.
+/// How long connecting to another node of this process may take.
 const REACH_MS: u64 = 1_000;
 
-/// How long one of another process may, however many addresses its name has.
+/// How long connecting to a node of another process may take, however many addresses its name has.
 const REACH_APART_MS: u64 = 2_000;
 
-/// Where a node is reached: a host, by its name or its IP address, and a port.
+/// Where a node is reached: a host, given by its name or IP address, and a port.
 #[derive(Drop)]
 pub struct Peer {
     pub host: String,
@@ -28,19 +28,19 @@ pub struct Peer {
 /// Where the other nodes are.
 #[derive(Drop)]
 enum Others {
-    /// In this process, of which the first node listens at this port.
+    /// In this process, whose first node listens at this port.
     Here(u16),
-    /// Where they are reached, maybe in other processes: all nodes in order, the node itself too.
+    /// At these places, maybe in other processes: all nodes in order, including the node itself.
     Apart(Arc<Vec<Peer>>),
 }
 
-/// The node of this number, if there is one.
+/// Returns the node with this number, if there is one.
 fn peer_at(peers: &[Peer], number: u8) -> Option<&Peer> {
     peers.get(usize::from(number.saturating_sub(1)))
 }
 
-/// Where a node listens that is reached at this port: on the loopback interface there, unless
-/// something else is said.
+/// Returns where a node listens that is reached at this port: at the given address or, if none is
+/// given, at this port of the loopback interface.
 fn listens_at(said: Option<SocketAddr>, port: u16) -> SocketAddr
     ensures { IfNone said (socket_ip result ≡ IpAddr.V4 Ipv4Addr.LOCALHOST) }
 {
@@ -50,7 +50,7 @@ fn listens_at(said: Option<SocketAddr>, port: u16) -> SocketAddr
     }
 }
 
-/// A connection to a node.
+/// Connects to a node.
 fn connect<R: Wait + Clock + Net<Stream = TcpStream>>(
     rt: &R,
     alloc: Global,
@@ -67,8 +67,8 @@ fn connect<R: Wait + Clock + Net<Stream = TcpStream>>(
     )
 }
 
-/// Where one is reached from its own machine that listens here: one that listens on every
-/// interface, on the loopback interface.
+/// Returns where a node that listens at this address is reached from its own machine: on the
+/// loopback interface, if it listens on every interface.
 pub fn door_of(address: SocketAddr) -> SocketAddr {
     let port = address.port();
     match address.ip() {
@@ -92,8 +92,8 @@ pub struct Site {
 }
 
 impl Site {
-    /// Of one of the nodes of a process, of which the first listens at this port of the loopback
-    /// interface.
+    /// Makes the site of one of the nodes of a process whose first node listens at this port of the
+    /// loopback interface.
     pub fn here(first_port: u16, number: u8) -> Site
         ensures ip { socket_ip result.listen ≡ IpAddr.V4 Ipv4Addr.LOCALHOST }
         ensures port { socket_port result.listen ≡ min (first_port + (number - 1)) (2 ^ 16 - 1) }
@@ -105,9 +105,9 @@ impl Site {
         }
     }
 
-    /// Of a node that reaches the others at these addresses, in order, as it is reached itself.
-    /// Where it isn't said where it listens, it does so on the loopback interface, at its own port
-    /// there. It listens for operators where that is said.
+    /// Makes the site of a node that reaches the others at these addresses, in order, and is itself
+    /// reached at one of them. If no address to listen at is given, it listens at its own port on
+    /// the loopback interface. It listens for operators if that address is given.
     pub fn apart(
         said: Option<SocketAddr>,
         operate: Option<SocketAddr>,
@@ -132,12 +132,12 @@ impl Site {
         matches!(&self.others, Others::Apart(_))
     }
 
-    /// Where the node reaches its own port.
+    /// Returns where the node reaches its own port.
     pub fn own_door(&self) -> SocketAddr {
         door_of(self.listen)
     }
 
-    /// Where it reaches its own port for operators, if it has one.
+    /// Returns where it reaches its own port for operators, if it has one.
     pub fn own_operators_door(&self) -> Option<SocketAddr> {
         match self.operate {
             Some(address) => Some(door_of(address)),
@@ -145,7 +145,7 @@ impl Site {
         }
     }
 
-    /// A connection to another node.
+    /// Connects to another node.
     pub fn reach<R: Wait + Clock + Net<Stream = TcpStream>>(
         &self,
         rt: &R,

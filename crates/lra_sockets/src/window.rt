@@ -1,27 +1,27 @@
-// How much of a request has come, and what its head says of the rest.
+// Finds out how much of a request has come, and what its head says about the rest.
 
 use httparse::{EMPTY_HEADER, Header, Request, Status};
 use lra_http::{MAX_BODY_BYTES, MAX_HEAD_BYTES, MAX_HEAD_LINES};
 
-/// How many bytes a request has at most that is looked at while it comes: as many as a head may
-/// have. A worker reads a longer one as it comes.
+/// The most bytes of a request that is looked at while it comes: as many as a head may have. A
+/// worker reads a longer request as it comes.
 const LONGEST: usize = MAX_HEAD_BYTES;
 
-/// How many bytes are looked at, so that it shows which is longer.
+/// How many bytes are looked at, so that a longer request is recognized.
 pub(crate) const WINDOW: usize = LONGEST + 1;
 
-/// How many are looked at first. Most requests have fewer, and a buffer is cleared before each look.
+/// How many bytes are looked at first. Most requests have fewer, and a buffer is cleared before
+/// each look.
 pub(crate) const GLANCE: usize = 2_048;
 
-/// What has come of a request.
+/// How much of a request has come.
 #[derive(Clone, Copy, PartialEq, Eq, Debug)]
 pub enum Extent {
     /// A part of its head, or of its body.
     Part,
-    /// All of it, or a head that is refused whatever comes behind it: a worker has no more to wait
-    /// for.
+    /// All of it, or a head that is refused whatever follows: a worker needn't wait for more.
     Whole,
-    /// The start of one that is longer.
+    /// The start of a longer request.
     Long,
 }
 
@@ -46,7 +46,7 @@ fn is_named(header: &Header, name: &str) -> bool {
     header.name.eq_ignore_ascii_case(name)
 }
 
-/// How many fields have this name.
+/// Returns how many fields have this name.
 fn count_of(headers: &[Header], name: &str) -> usize {
     headers
         .iter()
@@ -54,13 +54,14 @@ fn count_of(headers: &[Header], name: &str) -> usize {
         .count()
 }
 
-/// Whether there are as many Host fields as a request of this version has.
+/// Whether there are as many Host fields as a request of this version must have.
 fn has_right_hosts(minor: u8, headers: &[Header]) -> bool {
     let count = count_of(headers, "host");
     count == 1 || (count == 0 && minor == 0)
 }
 
-/// The number that digits alone write. One that is too great for a length stays so.
+/// Returns the number that digits alone write. A number that is too great for a length stays too
+/// great.
 fn number_in(text: &[u8]) -> Option<usize> {
     if text.is_empty() {
         return None;
@@ -76,7 +77,7 @@ fn number_in(text: &[u8]) -> Option<usize> {
     Some(number)
 }
 
-/// The length of a body that a field states, unless it is refused.
+/// Returns the length of a body that a field states, unless the field is refused.
 fn length_in(header: &Header) -> Option<usize> {
     match number_in(header.value) {
         Some(length) if length <= MAX_BODY_BYTES => Some(length),
@@ -84,8 +85,8 @@ fn length_in(header: &Header) -> Option<usize> {
     }
 }
 
-/// The length of the body that the fields state, 0 where they state none; nothing where they are
-/// refused.
+/// Returns the length of the body that the fields state, 0 if they state none, or `None` if they
+/// are refused.
 fn stated_length(headers: &[Header]) -> Option<usize> {
     let mut stated = headers
         .iter()
@@ -97,7 +98,7 @@ fn stated_length(headers: &[Header]) -> Option<usize> {
     }
 }
 
-/// The length of the body that a head states, 0 where it states none; nothing where the head is
+/// Returns the length of the body that a head states, 0 if it states none, or `None` if the head is
 /// refused. These are the rules by which a worker reads a request (`read_request` of `lra_http`).
 fn length_of(minor: u8, headers: &[Header]) -> Option<usize> {
     if count_of(headers, "transfer-encoding") > 0 || !has_right_hosts(minor, headers) {
@@ -106,7 +107,8 @@ fn length_of(minor: u8, headers: &[Header]) -> Option<usize> {
     stated_length(headers)
 }
 
-/// The body of a whole request, as long as its head states; nothing where it is none, or is refused.
+/// Returns the body of a whole request, as long as its head states, or `None` if there is no whole
+/// request or it is refused.
 pub(crate) fn body_of(bytes: &[u8]) -> Option<&[u8]> {
     let mut headers = [EMPTY_HEADER; MAX_HEAD_LINES];
     let mut request = Request::new(&mut headers);
@@ -126,7 +128,7 @@ fn awaits_continue(minor: u8, headers: &[Header]) -> bool {
         })
 }
 
-/// What so many bytes show whose head ends at a place, and has these fields.
+/// Returns what this many bytes show if their head ends at a position and has these fields.
 fn sight_behind(count: usize, head: usize, minor: u8, headers: &[Header]) -> Sight {
     let Some(length) = length_of(minor, headers) else {
         return Sight::of(Extent::Whole);
@@ -146,7 +148,7 @@ fn sight_behind(count: usize, head: usize, minor: u8, headers: &[Header]) -> Sig
     }
 }
 
-/// What these bytes show of a request: all that have come, or the first 16,385.
+/// Returns what these bytes of a request show: all that have come, or the first 16,385.
 pub fn sight_of(bytes: &[u8]) -> Sight {
     let mut headers = [EMPTY_HEADER; MAX_HEAD_LINES];
     let mut request = Request::new(&mut headers);
@@ -156,7 +158,7 @@ pub fn sight_of(bytes: &[u8]) -> Sight {
             sight_behind(bytes.len(), head, minor, request.headers)
         }
         Ok(Status::Partial) if bytes.len() <= LONGEST => Sight::of(Extent::Part),
-        // It is no head, or one that is too long.
+        // It is not a head, or it is too long.
         _ => Sight::of(Extent::Whole),
     }
 }
