@@ -1,4 +1,4 @@
--- What is heard of a participant that is called for a duty.
+-- What is learned from a participant that is called for a duty.
 use Rattle.std.specs.Prelude.{◌≡◌, ◌≢◌, ◌⊎◌}
 use Rattle.lra_http.specs.declared.message.CallRequest.{CallRequest}
 use Rattle.lra_callback.specs.declared.answer.Answer.{Answer}
@@ -12,37 +12,38 @@ use Rattle.lra_callback.specs.CallRequests.{IsRequestOf}
 use Rattle.lra_turns.specs.declared.plight.Came.{Came}
 use Rattle.lra_turns.specs.declared.plight.Came.TheVariants.{Broken as NoAnswer, Code as OtherCode}
 
--- for which duty a participant was called, and what was heard of it
+-- for which duty a participant was called, and what was learned
 pub record Said : Type 0 where
   pub duty : Duty
   pub heard : Heard
 
--- some answer to a call for this duty is heard so, and counts for something: so of a call to complete no forgetting is heard
+-- some answer to a call for this duty means this, and counts for something: so a call to complete
+-- never yields a forgetting
 pub record IsHeard (duty : Duty) (heard : Heard) : Type 0 where
   pub answer : Answer
   pub is : heard ≡ heard_of duty.act duty.kind answer
   pub counts : heard ≢ Again
 
--- what came of an answer that counts for nothing: its code, or no whole answer
+-- the result of an answer that counts for nothing: its code, or no whole answer
 abbrev pub came_of : Answer → Came
 came_of (Code code body) = OtherCode code
 came_of Broken = NoAnswer
 
--- the caller answered so when it was called with the request for a duty
+-- the caller gave this answer when it was called with the request for a duty
 abbrev pub Answers : {C : Type 0} → OfCaller C → (old new : C) → Duty → Answer → Type 0
 Answers caller old new duty answer = (request : CallRequest) × IsRequestOf duty request × caller.answered old new request answer
 
--- it was called with that request, and no memory was there for an answer
+-- the caller was called with that request, and memory for an answer ran out
 abbrev pub Starves : {C : Type 0} → OfCaller C → (old new : C) → Duty → Type 0
 Starves caller old new duty = (request : CallRequest) × IsRequestOf duty request × caller.unanswered old new request
 
--- what was heard, of the answer to the request for this duty
+-- what was learned, from the answer to the request for this duty
 abbrev pub IsHeardIn : {C : Type 0} → OfCaller C → (old new : C) → Duty → Said → Type 0
 IsHeardIn caller old new duty said =
     (said.duty ≡ duty) × ((answer : Answer) × Answers caller old new duty answer × (said.heard ≡ heard_of duty.act duty.kind answer))
 
--- why nothing was heard: the answer to that request counts for nothing; or no memory was there for the request, and nobody was called;
--- or for the answer
+-- why nothing was learned: the answer to that request counts for nothing; or memory ran out for the
+-- request, and nobody was called; or memory ran out for the answer
 abbrev pub IsUnheardIn : {C : Type 0} → OfCaller C → (old new : C) → Duty → Came → Type 0
 IsUnheardIn caller old new duty came =
     ((answer : Answer) × Answers caller old new duty answer × (heard_of duty.act duty.kind answer ≡ Again) × (came ≡ came_of answer))

@@ -1,4 +1,4 @@
-// What was heard of a participant that was called for a duty.
+// The outcome of a callback, as a value that only a call can make.
 ghost use Rattle.std.specs.Prelude.{◌≡◌, IfErr, IfOk, Some};
 ghost use Rattle.lra_callback.specs.Answers.{heard_of};
 ghost use Rattle.lra_callback.specs.HeardCommands.{command_heard};
@@ -11,9 +11,9 @@ use lra_turns::{Came, Due};
 use std::alloc::Global;
 use std::marker::Model;
 
-/// What was heard of a participant that was called for a duty. Only `call_for` makes one, and none
-/// is made of another. So each was heard once, and is entered once at most, for the participant
-/// that was called.
+/// What a participant answered when it was called for a duty. Only `call_for` makes a letter, and
+/// none is made from another. So each answer was received once, and is recorded at most once, for
+/// the participant that was called.
 #[derive(Drop)]
 pub struct Letter {
     duty: Duty,
@@ -31,21 +31,21 @@ impl Model for Letter {
 }
 
 impl Letter {
-    /// The duty for which the participant was called.
+    /// Returns the duty for which the participant was called.
     pub fn duty(&self) -> &Duty
         ensures { result.now ≡ self.now.duty }
     {
         &self.duty
     }
 
-    /// What was heard. It counts for something.
+    /// Returns what was learned. It counts for something.
     pub fn heard(&self) -> Heard
         ensures { result ≡ self.now.heard }
     {
         self.heard
     }
 
-    /// The command that enters it.
+    /// Returns the command that records it.
     pub fn command(&self) -> Option<Command>
         ensures { result ≡ command_heard self.now.duty.id self.now.duty.member self.now.duty.act self.now.heard }
     {
@@ -54,14 +54,15 @@ impl Letter {
     }
 }
 
-/// That nothing was heard which counts of a participant that was to be called for a duty, and why.
+/// Says that nothing counts of what a participant answered that was to be called for a duty, and
+/// why.
 #[derive(Drop)]
 pub struct Unheard {
     pub due: Due,
     pub came: Came,
 }
 
-/// What came of an answer that counts for nothing.
+/// Returns the result of an answer that counts for nothing.
 fn came_of(answer: &Answer) -> Came
     ensures { result ≡ came_of answer.now }
 {
@@ -71,7 +72,7 @@ fn came_of(answer: &Answer) -> Came
     }
 }
 
-/// What is heard of an answer to a call for a duty, if it counts.
+/// Returns what an answer to a call for a duty means, if it counts.
 fn letter_of(due: Due, answer: &Answer) -> Result<Letter, Unheard>
     ensures heard { IfOk result (λ letter. (letter.duty ≡ due)
         × (letter.heard ≡ heard_of due.act due.kind answer.now)) }
@@ -87,14 +88,14 @@ fn letter_of(due: Due, answer: &Answer) -> Result<Letter, Unheard>
     Ok(Letter { duty, heard })
 }
 
-/// Calls a participant for a duty, once: makes the request for it, and hears the answer. Errors:
-/// nothing is heard that counts, since the answer is none that does, or since no memory can be had,
-/// which counts as no whole answer.
+/// Calls a participant for a duty, once: makes the request, makes the call, and reads the answer.
+/// Errors: nothing was learned that counts, because the answer counts for nothing or memory ran
+/// out, which is treated as no whole answer.
 pub fn call_for<C: Caller>(alloc: Global, caller: &mut C, due: Due) -> Result<Letter, Unheard>
-    // The caller answered the request for this duty, and what is heard of that answer counts.
+    // The caller answered the request for this duty, and what that answer means counts.
     ensures heard { IfOk result (IsHeardIn C.Caller caller.old caller.new due) }
-    // The answer counts for nothing, and is told; or no memory was there for the request, and
-    // nobody was called; or for the answer.
+    // The answer counts for nothing, and the error says what it was; or memory ran out for the
+    // request, and nobody was called; or memory ran out for the answer.
     ensures unheard { IfErr result (λ unheard. (unheard.due ≡ due)
         × IsUnheardIn C.Caller caller.old caller.new due unheard.came) }
 {

@@ -1,6 +1,6 @@
-//! What was heard of others: of participants that were called, and of nodes that were asked. A
-//! value of these types can be had only of a call or a pull that was made for it, and nothing
-//! changes it or makes two of it.
+//! What was learned from others: from participants that were called, and from nodes that were
+//! asked. Values of these types come only from a call or a pull that was really made, and nothing
+//! changes or duplicates them.
 #![tactic(auto)]
 
 mod letter;

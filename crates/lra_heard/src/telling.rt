@@ -1,4 +1,4 @@
-// What another node told in a pull.
+// What another node sent in answer to a pull.
 ghost use Rattle.std.specs.Prelude.{◌≡◌, ◌⊎◌, ◌++◌, List, ℕ, IfErr, IfOk, IfSome, MatchResult};
 ghost use Rattle.lra_delta.specs.Frames.{Frame};
 ghost use Rattle.lra_delta.specs.declared.version.Version.{Version};
@@ -15,9 +15,9 @@ use lra_peer::{PullError, pull};
 use std::alloc::{AllocError, Global};
 use std::marker::Model;
 
-/// What another node told in a pull: a whole frame, and which node was asked. Only `ask_for` makes
-/// one, and `copy` makes one of another, in case that can't be taken. So no frame is taken that
-/// didn't come.
+/// What another node sent in answer to a pull: a whole frame, and which node was asked. Only
+/// `ask_for` makes a telling, and `copy` makes one from another, in case the first can't be taken.
+/// So no frame is taken that didn't come.
 #[derive(Drop)]
 pub struct Telling {
     from: NodeId,
@@ -33,21 +33,21 @@ impl Model for Telling {
 }
 
 impl Telling {
-    /// The node that was asked.
+    /// Returns the node that was asked.
     pub fn from(&self) -> NodeId
         ensures { result ≡ self.now.from }
     {
         self.from
     }
 
-    /// How many facts of each node the other has.
+    /// Returns how many facts of each node the other node has.
     pub fn front(&self) -> Front
         ensures { result ≡ self.now.frame.front }
     {
         self.delta.front()
     }
 
-    /// One more, to be kept if a journal fails: what it tells is taken later then.
+    /// Copies the telling. The copy is kept in case a journal fails: then its frame is taken later.
     pub fn copy(&self) -> Result<Telling, AllocError>
         ensures { IfOk result (λ copy. copy ≡ self.now) }
     {
@@ -57,7 +57,7 @@ impl Telling {
         })
     }
 
-    /// The frame, to be taken.
+    /// Returns the frame, to be taken.
     pub fn into_delta(self) -> Delta
         ensures { result ≡ self.frame }
     {
@@ -65,8 +65,9 @@ impl Telling {
     }
 }
 
-/// Asks another node for what is lacked by one that has the facts which a front counts, with a
-/// query, as `lra_peer::pull`. The telling keeps the node's number. Errors: as that.
+/// Asks another node, with a query, for what a node lacks that has the facts which a front counts,
+/// as `lra_peer::pull` does. The telling keeps the other node's number. Errors: the same as those
+/// of `lra_peer::pull`.
 pub fn ask_for<R: Source, W: Sink>(
     alloc: Global,
     reader: &mut R,
