@@ -1,9 +1,10 @@
--- How many LRAs of a home show what.
+-- How many LRAs of a home show each status.
 use Rattle.std.specs.Prelude.{◌+◌, ℕ, List, if◌then◌else◌, min, nat_lt, replicate, slice_index, slice_set}
 use Rattle.lra_id.specs.States.{rank}
 use Rattle.lra_id.specs.declared.status.LraStatus.{LraStatus}
 
--- how many a look has found so far, how many of them show each status, by rank, and how many showed each at the end of the last look
+-- how many LRAs a look has found so far, how many of them show each status, by rank, and how many
+-- showed each at the end of the last look
 pub record Counts : Type 0 where
   pub counted : ℕ
   pub showing : List ℕ
@@ -20,7 +21,7 @@ one_more n = min (n + 1) 18_446_744_073_709_551_615
 abbrev pub counted_at : ℕ → List ℕ → List ℕ
 counted_at place counts = if nat_lt place 7 then slice_set counts place (one_more (slice_index counts place)) else counts
 
--- once one was found that shows this; once a look begins; and once it is over
+-- after one was found that shows this; after a look began; and after it is over
 abbrev pub with_one : LraStatus → Counts → Counts
 with_one status c = record { counted = one_more c.counted; showing = counted_at (rank status) c.showing; held = c.held }
 

@@ -7,11 +7,11 @@ use Rattle.std.specs.declared.time.Duration.{Duration}
 abbrev pub is_by : Duration → Duration → Bool
 is_by now at = nat_le (as_nanos at) (as_nanos now)
 
--- the moment so many milliseconds after another, in nanoseconds
+-- the moment this many milliseconds after another, in nanoseconds
 abbrev pub nanos_after : ℕ → Duration → ℕ
 nanos_after ms now = min (as_nanos now + ms * 1_000_000) max_nanos
 
--- a moment is so many milliseconds after another
+-- a moment is this many milliseconds after another
 abbrev pub IsAfter : ℕ → Duration → Duration → Type 0
 IsAfter ms now at = as_nanos at ≡ nanos_after ms now
 

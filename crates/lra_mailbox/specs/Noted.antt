@@ -1,4 +1,4 @@
--- What a call at the desk leaves for the threads to go on with.
+-- The effects of a call at the desk, which the threads go on with.
 use Rattle.std.specs.Prelude.{◌≡◌, Bool, Option, None, Some, false, map, true}
 use Rattle.std.specs.declared.time.Duration.{Duration}
 use Rattle.lra_id.specs.Ids.{Id}
@@ -12,13 +12,13 @@ use Rattle.lra_mailbox.specs.declared.noted.News.{News}
 use Rattle.lra_mailbox.specs.declared.noted.News.TheVariants.{Nobody, OfCompletion, Others}
 use Rattle.lra_mailbox.specs.declared.noted.Noted.{Noted}
 
--- it is asked anew who is to be called, where somebody may be
+-- a new list of duties is asked for, if a participant may be due
 abbrev pub with_news : News → Mail → Mail
 with_news Nobody m = m
 with_news OfCompletion m = after_news true m
 with_news Others m = after_news false m
 
--- the home is looked through for what became of an LRA
+-- what a call changed of an LRA makes the home be looked through
 abbrev pub with_became : Became → Sweeps → Sweeps
 with_became Nothing s = s
 with_became Begun s = with_looking (with_begun s.looking) s
@@ -26,7 +26,8 @@ with_became Full s = with_full true s
 with_became Ended s = with_looking (with_stir s.looking) s
 with_became Removed s = with_looking (with_purged s.looking) s
 
--- roots that waited for an LRA are tried; or, where a frame was taken, all that wait are tried within a second
+-- roots that waited for an LRA are tried; or, if a frame was taken, all that wait are tried within
+-- a second
 abbrev pub freed_of : Option Id → Sweeps → Sweeps
 freed_of None s = s
 freed_of (Some id) s = with_ended (map (freed id) s.ended) s
@@ -35,7 +36,7 @@ abbrev pub freed_by : (took : Bool) → Option Id → Duration → Sweeps → Sw
 freed_by true freed now s = with_ended (map (hastened now) s.ended) s
 freed_by false freed now s = freed_of freed s
 
--- all that a call leaves is noted
+-- all effects of a call are recorded
 pub record Notes (noted : Noted) (now : Duration) (old new : Mail) : Type 0 where
   pub freed : new.sweeps ≡ freed_by noted.took noted.freed now (with_became noted.became old.sweeps)
   pub heard : IsMentioned noted.heard old.since new.since

@@ -1,4 +1,4 @@
--- How long the thread that enters may wait for something to do.
+-- How long the writer thread may wait for something to do.
 use Rattle.std.specs.Prelude.{◌≡◌, ◌-◌, ◌||◌, Bool, Option, None, Some, IsSomeAnd, MatchBool, if◌then◌else◌}
 use Rattle.std.specs.Duration.{as_nanos}
 use Rattle.std.specs.declared.time.Duration.{Duration}
@@ -18,19 +18,20 @@ abbrev pub that_or : Option Duration → Duration → Duration
 that_or None other = other
 that_or (Some at) other = at
 
--- when deadlines are looked at; or, before commands are entered, when they are at the latest
+-- when deadlines are next checked; before commands are accepted, when they are at the latest
 abbrev pub looks_at : Mail → Duration
 looks_at m = if m.opening.is_open then m.asking.ticks_at else that_or m.opening.opens_at m.asking.ticks_at
 
--- when there is something to do by itself
+-- when the next timer fires
 abbrev pub next_at : Duration → Mail → Duration
 next_at now m = if is_spared now m then m.held_until else (if m.known.is_to_count then earlier_of (looks_at m) m.known.counts_at else looks_at m)
 
--- when there is something to do at the latest: so, or when a pause is over
+-- the latest moment with something to do: when the next timer fires, or when a pause is over
 abbrev pub rests_until : Duration → Mail → Duration
 rests_until now m = earlier m.calls.resumes_at (next_at now m)
 
--- whether it may not wait: there is a task, or it was told to look whether the run is over
+-- whether the writer thread must not wait: there is a task, or it was told to check whether the run
+-- is over
 abbrev pub is_occupied : Duration → Mail → Bool
 is_occupied now m = has_task now m || m.is_hurried
 

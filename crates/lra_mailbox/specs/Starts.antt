@@ -1,4 +1,4 @@
--- Whether a node enters anything of its own yet: at a start it hears the others first.
+-- Whether a node stores anything of its own yet: at a start it hears from the others first.
 use Rattle.std.specs.Prelude.{◌≡◌, ◌⊎◌, ◌↔◌, ◌-◌, ◌&&◌, ◌||◌, ◌==◌, ℕ, Bool, false, List, Option, None, Some, IsTrue, MatchBool, if◌then◌else◌, length, max, nat_le, not, slice_set, true}
 use Rattle.std.specs.List.{list_all, list_any}
 use Rattle.std.specs.Duration.{as_nanos}
@@ -7,51 +7,53 @@ use Rattle.lra_id.specs.Fronts.{IsBelow, count, join_fronts}
 use Rattle.lra_mailbox.specs.Moments.{IsAfter}
 use Rattle.lra_mailbox.specs.declared.opening.Opening.{Opening}
 
--- 1 for a node that was heard, and 0 for one that wasn't
+-- 1 for a node that was heard from, and 0 for one that wasn't
 abbrev pub is_silent : ℕ → Bool
 is_silent count = count == 0
 
 abbrev pub heard_with : ℕ → List ℕ → List ℕ
 heard_with node heard = if nat_le node (length heard) then slice_set heard (node - 1) 1 else heard
 
--- whether each was heard
+-- whether each node was heard from
 abbrev pub are_heard : List ℕ → Bool
 are_heard heard = not (list_any is_silent heard)
 
--- whether one with so many facts of its own has as many as is claimed; and as many as each claims
+-- whether a node with this many facts of its own has as many as is claimed; and as many as each
+-- node claims
 abbrev pub is_met : (own claim : ℕ) → Bool
 is_met own claim = nat_le claim own
 
 abbrev pub are_met : (own : ℕ) → List ℕ → Bool
 are_met own claims = list_all (is_met own) claims
 
--- whether one that has these facts has all of its own that another told, or claims to have: what a node claims counts until it has
--- answered twice since
+-- whether a node with this front has all facts of its own that another sent or claims to have: a
+-- claim counts until its node has answered twice since
 abbrev pub has_own : List ℕ → Opening → Bool
 has_own front o = nat_le (count o.awaited o.me) (count front o.me) && (are_met (count front o.me) o.claimed && are_met (count front o.me) o.doubtful)
 
--- when it opens at the latest: a second after the first look
+-- when it opens at the latest: a second after the first check
 abbrev pub IsOpenedBy : Duration → Option Duration → Duration → Type 0
 IsOpenedBy now (Some until) by = by ≡ until
 IsOpenedBy now None by = IsAfter 1_000 now by
 
--- Before the time is over it opens at a look if each was heard, and what they told is taken. Later it needs no facts of others, nor to hear
--- all, unless it is said that it waits for all.
+-- Before the time is over, a check opens it if each node was heard from and what they sent is
+-- taken. Later it needs no facts of others, and needn't have heard from all, unless it is to wait
+-- for all.
 abbrev pub IsReady : Bool → List ℕ → Opening → Type 0
 IsReady is_over front o =
     MatchBool is_over
     (IsTrue (not o.waits_for_all) ⊎ IsTrue (are_heard o.heard))
     (IsTrue (are_heard o.heard) × IsBelow o.awaited front)
 
--- it opens at a look if it has its own facts, and is ready
+-- a check opens it if it has its own facts, and is ready
 abbrev pub IsLookedAt : Bool → List ℕ → Opening → Bool → Type 0
 IsLookedAt is_over front o opens = IsTrue opens ↔ (IsTrue (has_own front o) × IsReady is_over front o)
 
--- when it is looked at again: a second later, once the time is over and it wasn't opened
+-- when the next check is: a second later, if the time is over and it didn't open
 abbrev pub IsNextLook : Bool → (now until next : Duration) → Type 0
 IsNextLook is_late now until next = MatchBool is_late (IsAfter 1_000 now next) (next ≡ until)
 
--- it is opened, or not, at a look by a node that has these facts
+-- a check by a node with this front opens it, or doesn't
 pub record IsOpenedAt (now : Duration) (front : List ℕ) (old new : Opening) : Type 0 where
   pub until : Duration
   pub next : Duration
@@ -70,7 +72,7 @@ pub record IsOpenedAt (now : Duration) (front : List ℕ) (old new : Opening) : 
     doubtful = old.doubtful;
   }
 
--- one that is open stays so at a look, and that it is opened is said once
+-- if it is open it stays so at a check, and that it opens is reported once
 abbrev pub IsOpened : Duration → List ℕ → Opening → Opening → Bool → Type 0
 IsOpened now front old new result =
     MatchBool old.is_open ((new ≡ old) × (result ≡ false)) (IsOpenedAt now front old new × (result ≡ new.is_open))
@@ -79,12 +81,13 @@ IsOpened now front old new result =
 abbrev pub with_awaited : List ℕ → Opening → Opening
 with_awaited told o = record o { awaited = join_fronts o.awaited told }
 
--- with another number at a node's place, if there is one
+-- with another number for a node, if it has a place there
 abbrev pub count_at : (node count : ℕ) → List ℕ → List ℕ
 count_at node count counts = if nat_le node (length counts) then slice_set counts (node - 1) count else counts
 
--- another node answered and told this, to one that has these facts: more of this node's own close it. What it claimed before is in doubt
--- from then on, and what was in doubt already counts no more.
+-- another node answered and sent this to a node with the front `known`: more of this node's own
+-- facts close it. What the other claimed before is in doubt from then on, and what was already in
+-- doubt no longer counts.
 abbrev pub heard_now : ℕ → (told known : List ℕ) → Opening → Opening
 heard_now other told known o = record o {
   is_open = o.is_open && nat_le (count told o.me) (count known o.me);
@@ -101,11 +104,11 @@ heard_by other told known o = if length told == length o.awaited then heard_now 
 abbrev pub patient : Opening → Opening
 patient o = record o { waits_for_all = true }
 
--- another node, which asks, claims to have so many facts of this one: a start waits for them
+-- another node, which asks, claims to have this many facts of this one: a start waits for them
 abbrev pub claimed_by : (other more : ℕ) → Opening → Opening
 claimed_by other more o = if o.is_open then o else record o { claimed = count_at other (max (count o.claimed other) more) o.claimed }
 
--- nothing is entered before it has so many facts of its own
+-- nothing is stored before the node has this many facts of its own
 abbrev pub own_awaited : ℕ → Opening → Opening
 own_awaited more o = record o { is_open = false; awaited = count_at o.me (max (count o.awaited o.me) more) o.awaited }
 

@@ -1,4 +1,4 @@
-// When deadlines are looked at, and when it is asked who is to be called.
+// Decides when deadlines are checked, and when a new list of duties is asked for.
 ghost use Rattle.std.specs.Prelude.{◌≡◌, ◌-◌, ◌||◌, ◌&&◌, false, nat_le, not, true};
 ghost use Rattle.std.specs.Duration.{as_nanos};
 ghost use Rattle.lra_mailbox.specs.Moments.{IsAfter, is_by};
@@ -7,19 +7,18 @@ ghost use Rattle.lra_turns.specs.Slips.{at_once};
 
 use std::time::Duration;
 
-/// How often deadlines are looked at.
+/// How often deadlines are checked.
 const TICK_MS: u64 = 500;
 
-/// How long after it was last asked who is to be called that is asked anew, whatever happens, in
-/// nanoseconds.
+/// How long after the last list of duties a new one is asked for, whatever happens, in nanoseconds.
 const ASK_NANOS: u128 = 30_000_000_000;
 
-/// When deadlines are looked at, and when it is asked who is to be called.
+/// When deadlines are checked, and when a new list of duties is asked for.
 #[derive(Drop)]
 pub(crate) struct Asking {
-    /// Whether it is to be asked now.
+    /// Whether a new list is to be asked for now.
     pub(crate) is_stirred: bool,
-    /// Whether it is to be asked when deadlines are looked at.
+    /// Whether a new list is to be asked for when deadlines are next checked.
     pub(crate) is_put_off: bool,
     pub(crate) asked_at: Duration,
     pub(crate) ticks_at: Duration,
@@ -37,36 +36,36 @@ impl Asking {
         }
     }
 
-    /// Has it asked now.
+    /// Asks for a new list now.
     pub(crate) fn stir(&mut self)
         ensures { self.new ≡ stirred self.old }
     {
         self.is_stirred = true;
     }
 
-    /// Has it asked when deadlines are looked at.
+    /// Asks for a new list when deadlines are next checked.
     pub(crate) fn put_off(&mut self)
         ensures { self.new ≡ put_off self.old }
     {
         self.is_put_off = true;
     }
 
-    /// Has deadlines looked at at once.
+    /// Makes deadlines be checked at once.
     pub(crate) fn hasten(&mut self)
         ensures { self.new ≡ hastened self.old }
     {
         self.ticks_at = Duration::ZERO;
     }
 
-    /// Whether deadlines are to be looked at at this moment.
+    /// Whether deadlines are to be checked at this moment.
     pub(crate) fn is_tick_due(&self, now: Duration) -> bool
         ensures { result ≡ is_by now self.now.ticks_at }
     {
         self.ticks_at.as_nanos() <= now.as_nanos()
     }
 
-    /// Whether it is to be asked at a tick who is to be called: that was put off, or it is long
-    /// since, and somebody is to be.
+    /// Whether a tick is to ask for a new list: that was put off, or the last list was long ago and
+    /// some participant is to be called.
     fn is_to_ask_again(&self, now: Duration, is_anyone: bool) -> bool
         ensures { result ≡ is_to_ask_again now is_anyone self.now }
     {
@@ -74,7 +73,7 @@ impl Asking {
         self.is_put_off || (is_anyone && since.as_nanos() >= ASK_NANOS)
     }
 
-    /// Has deadlines looked at at this moment, and next after a while.
+    /// Records that deadlines are checked at this moment, and schedules the next check.
     pub(crate) fn tick(&mut self, now: Duration, is_anyone: bool)
         ensures at { IsAfter 500 now self.new.ticks_at }
         ensures rest { self.new ≡ looked now is_anyone self.new.ticks_at self.old }
@@ -84,7 +83,7 @@ impl Asking {
         self.ticks_at = now.saturating_add(Duration::from_millis(TICK_MS));
     }
 
-    /// Has it asked at this moment.
+    /// Records that the list is asked for at this moment.
     pub(crate) fn ask(&mut self, now: Duration)
         ensures { self.new ≡ asked now self.old }
     {

@@ -7,9 +7,9 @@ use crate::opening::count_at;
 use lra_id::{Front, MAX_NODES, NodeId};
 use std::marker::Model;
 
-/// How many facts of its own each other node counted when it asked this one. One that counts fewer than
-/// before has begun anew, over a lost or an older journal: what it told before, and comes only now, is
-/// not to be taken, since the node may give these numbers to other facts.
+/// How many facts of its own each other node counted when it asked this one. A node that counts
+/// fewer than before has begun anew, over a lost or an older journal. What it sent before that, and
+/// comes only now, is not to be taken, because the node may give the same numbers to other facts.
 #[derive(Drop)]
 pub struct Asks {
     own: Front,
@@ -25,7 +25,7 @@ impl Model for Asks {
 }
 
 impl Asks {
-    /// None of so many nodes, 1 to 8, has asked yet.
+    /// Makes the record of a group of `nodes` nodes, 1 to 8, of which none has asked yet.
     pub fn new(nodes: u8) -> Asks
         requires { (1 ≤ nodes) × (nodes ≤ MAX_NODES) }
         ensures { result ≡ unasked nodes }
@@ -36,7 +36,7 @@ impl Asks {
         }
     }
 
-    /// Notes that a node asks, and counts so many facts of its own.
+    /// Records that a node asks, and counts this many facts of its own.
     pub fn hear(&mut self, other: NodeId, own: u64)
         ensures { self.new ≡ asked_by other own self.old }
     {
@@ -47,15 +47,15 @@ impl Asks {
         self.own = count_at(other, own, self.own);
     }
 
-    /// How often a node began anew, as far as it asked since.
+    /// Returns how often a node began anew, as far as it has asked since.
     pub fn times_anew(&self, other: NodeId) -> u64
         ensures { result ≡ times_anew other self.now }
     {
         self.anew.count(other)
     }
 
-    /// Whether what a node told comes from before it began anew: it told of so many facts of its own,
-    /// and had begun anew so often when it was asked for that.
+    /// Whether what a node sent is from before it began anew. `told` is the number of its own facts
+    /// that it sent, and `seen` how often it had begun anew when it was asked for that.
     pub fn is_of_before(&self, other: NodeId, seen: u64, told: u64) -> bool
         ensures { result ≡ is_of_before other seen told self.now }
     {

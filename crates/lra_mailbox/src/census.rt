@@ -1,4 +1,4 @@
-// How many LRAs of a home show what.
+// Counts the LRAs of a home by what they show.
 ghost use Rattle.std.specs.Prelude.{◌≡◌};
 ghost use Rattle.lra_mailbox.specs.Censuses.{counted_at, counted_over, counting, none_counted, one_more, with_one};
 
@@ -8,13 +8,14 @@ use std::marker::Model;
 /// How many statuses there are.
 pub const STATUSES: usize = 7;
 
-/// What the LRAs of a home show, as far as they were counted.
+/// What the LRAs of a home show, as far as they have been counted.
 #[derive(Drop)]
 pub(crate) struct Census {
-    /// How many LRAs of the home the look has found so far, and how many of them show each status, by its rank.
+    /// How many LRAs of the home the look has found so far, and how many of them show each status,
+    /// by its rank.
     counted: u64,
     showing: [u64; STATUSES],
-    /// How many of those that the last look found showed each status.
+    /// How many of the LRAs that the last look found showed each status.
     held: [u64; STATUSES],
 }
 
@@ -26,14 +27,14 @@ impl Model for Census {
     ghost view = { λ c. record { counted = c.counted; showing = c.showing; held = c.held } };
 }
 
-/// One more than so many, as far as 64 bits reach.
+/// Returns one more than `count`, as far as 64 bits reach.
 fn one_more(count: u64) -> u64
     ensures { result ≡ one_more count }
 {
     count.saturating_add(1)
 }
 
-/// Counts one more at a place, if there is such a place.
+/// Adds one to the count at a position, if there is such a position.
 fn count_at(counts: &mut [u64; STATUSES], place: usize)
     ensures { counts.new ≡ counted_at place counts.old }
 {
@@ -43,7 +44,7 @@ fn count_at(counts: &mut [u64; STATUSES], place: usize)
 }
 
 impl Census {
-    /// Nothing was counted yet.
+    /// Makes a census in which nothing was counted yet.
     pub(crate) fn new() -> Census
         ensures { result ≡ none_counted }
     {
@@ -54,21 +55,21 @@ impl Census {
         }
     }
 
-    /// How many the look has found so far.
+    /// Returns how many LRAs the look has found so far.
     pub(crate) fn counted(&self) -> u64
         ensures { result ≡ self.now.counted }
     {
         self.counted
     }
 
-    /// How many showed each status at the end of the last look.
+    /// Returns how many LRAs showed each status at the end of the last look.
     pub(crate) fn held(&self) -> [u64; STATUSES]
         ensures { result ≡ self.now.held }
     {
         self.held
     }
 
-    /// Notes that a look begins.
+    /// Records that a look begins.
     pub(crate) fn begin(&mut self)
         ensures { self.new ≡ counting self.old }
     {
@@ -76,14 +77,14 @@ impl Census {
         self.showing = [0; STATUSES];
     }
 
-    /// Notes that it is over.
+    /// Records that the look is over.
     pub(crate) fn end(&mut self)
         ensures { self.new ≡ counted_over self.old }
     {
         self.held = self.showing;
     }
 
-    /// Counts one that shows this.
+    /// Counts an LRA that shows this status.
     pub(crate) fn count(&mut self, status: LraStatus)
         ensures { self.new ≡ with_one status self.old }
     {

@@ -1,4 +1,4 @@
-// Who was heard while a list of those who are to be called is out.
+// Records which participants were heard from while a list of duties is pending.
 ghost use Rattle.std.specs.Prelude.{◌≡◌};
 ghost use Rattle.lra_callback.specs.declared.answer.Heard.TheVariants.{Outcome as AnOutcome};
 ghost use Rattle.lra_id.specs.declared.outcome.Outcome.TheVariants.{Busy as IsBusy};
@@ -11,28 +11,28 @@ use std::alloc::Global;
 use std::marker::Model;
 use std::time::Duration;
 
-/// Whether one is among those who were heard.
+/// Whether a participant is among those that were heard from.
 fn was_heard(heard: &[Called], who: &Called) -> bool
     ensures { result ≡ was_heard heard.now who.now }
 {
     heard.iter().any(|other| who.is(other))
 }
 
-/// Whether a duty's participant isn't among those who were heard.
+/// Whether a duty's participant isn't among those that were heard from.
 fn is_unheard(heard: &[Called], duty: &Duty) -> bool
     ensures { result ≡ is_unheard heard.now duty.now }
 {
     !was_heard(heard, &Called::of(duty))
 }
 
-/// Leaves those out who were heard.
+/// Removes the duties of the participants that were heard from.
 fn leave_out(duties: &mut Vec<Duty>, heard: &[Called])
     ensures { duties.new.items ≡ unheard heard.now duties.old.items }
 {
     duties.retain(|duty| is_unheard(heard, duty));
 }
 
-/// Has each of these pause, one after another.
+/// Pauses each of these participants, one after another.
 pub(crate) fn pause_each(calls: &mut Calls, busy: &[Called], now: Duration)
     ensures { PausesEach now busy.now calls.old calls.new }
 {
@@ -41,15 +41,15 @@ pub(crate) fn pause_each(calls: &mut Calls, busy: &[Called], now: Duration)
     }
 }
 
-/// Who was heard while a list of those who are to be called is out: since it was asked for, and
-/// until it is put. It calls nobody of these.
+/// Which participants were heard from while a list of duties is pending: from when the list was
+/// asked for until it is put. The list calls none of them.
 #[derive(Drop)]
 pub(crate) struct HeardSince {
     is_out: bool,
-    /// Whether all who were heard are noted: one isn't if memory ran out.
+    /// Whether every participant that was heard from is recorded: one isn't if memory ran out.
     is_whole: bool,
     heard: Vec<Called>,
-    /// Whose pause begins once the list is put: they answered that they are busy.
+    /// The participants whose pause begins once the list is put: they answered that they are busy.
     busy: Vec<Called>,
 }
 
@@ -67,7 +67,7 @@ impl Model for HeardSince {
 }
 
 impl HeardSince {
-    /// No list is out.
+    /// Makes the record with no list pending.
     pub(crate) fn new(alloc: Global) -> HeardSince
         ensures { result ≡ at_rest }
     {
@@ -79,7 +79,7 @@ impl HeardSince {
         }
     }
 
-    /// Notes that a list is asked for now.
+    /// Records that a list is asked for now.
     pub(crate) fn begin(&mut self)
         ensures { self.new ≡ asked_now }
     {
@@ -89,7 +89,7 @@ impl HeardSince {
         self.busy.clear();
     }
 
-    /// Notes that no list is out any more.
+    /// Records that no list is pending any more.
     pub(crate) fn end(&mut self)
         ensures { self.new ≡ at_rest }
     {
@@ -97,14 +97,14 @@ impl HeardSince {
         self.is_out = false;
     }
 
-    /// Whether all who were heard are noted.
+    /// Whether every participant that was heard from is recorded.
     pub(crate) fn is_whole(&self) -> bool
         ensures { result ≡ self.now.is_whole }
     {
         self.is_whole
     }
 
-    /// Whose pause begins once the list is put.
+    /// Returns the participants whose pause begins once the list is put.
     pub(crate) fn busy(&self) -> &[Called]
         ensures { result.now ≡ self.now.busy }
     {
@@ -122,7 +122,7 @@ impl HeardSince {
         }
     }
 
-    /// Notes that somebody was heard, if a list is out.
+    /// Records that a participant was heard from, if a list is pending.
     pub(crate) fn mention(&mut self, who: Option<Called>)
         ensures { IsMentioned who self.old self.new }
     {
@@ -133,7 +133,7 @@ impl HeardSince {
         }
     }
 
-    /// Has one who is busy wait with its pause. It says whether there was memory for that.
+    /// Puts off the pause of a busy participant. Returns false if memory ran out.
     fn put_off_pause(&mut self, who: &Called) -> bool
         ensures { WaitsWithPause (AnOutcome IsBusy) who.now self.old self.new result }
     {
@@ -144,8 +144,8 @@ impl HeardSince {
         is_put
     }
 
-    /// Notes the answer of a participant, if a list is out. It says whether its pause waits until
-    /// that is put.
+    /// Records the answer of a participant, if a list is pending. Returns whether the participant's
+    /// pause is put off until the list is put.
     pub(crate) fn note_answer(&mut self, who: &Called, heard: Heard) -> bool
         ensures { IsAnswerNotedIf heard who.now self.old self.new result }
     {
@@ -159,7 +159,7 @@ impl HeardSince {
         }
     }
 
-    /// The duties of a list, but of those who were heard.
+    /// Returns the duties of a list without those of the participants that were heard from.
     pub(crate) fn unheard(&self, duties: Duties) -> Vec<Duty>
         ensures { result.items ≡ unheard self.now.heard duties }
     {

@@ -8,33 +8,34 @@ ghost use Rattle.lra_turns.specs.Slips.{at_once};
 use lra_id::{Front, NodeId};
 use std::time::Duration;
 
-/// How often it is asked at most how many facts the node has.
+/// How often, at most, the journal is asked how many facts the node has, in milliseconds.
 const COUNT_MS: u64 = 50;
 
-/// More tellings than one node can have left: one that is taken, one that waits, one that waits for
-/// room, and one that is kept, as it couldn't be stored.
+/// More tellings than can be left of one node: one that is being taken, one that waits, one that
+/// waits for room, and one that is kept because it couldn't be stored.
 const MANY: u64 = 99;
 
-/// What is untaken of one of which so many tellings are left.
+/// Returns how many facts of a node are untaken, if `left` of its tellings are left.
 fn left_of(left: u64, told: u64) -> u64
     ensures { result ≡ left_of left told }
 {
     if left == 0 { 0 } else { told }
 }
 
-/// How many facts of each node this one has at least, and whether it is to be asked.
+/// How many facts of each node this one has at least, and whether that is to be asked.
 #[derive(Drop)]
 pub(crate) struct Known {
     pub(crate) front: Front,
-    /// Whether it is known how many facts the node had of its own at some moment since its start.
+    /// Whether it is known how many facts of its own the node had at some moment since its start.
     pub(crate) is_counted: bool,
-    /// Whether it is to be asked how many it has.
+    /// Whether that number is to be asked for.
     pub(crate) is_to_count: bool,
-    /// Not before this moment.
+    /// It isn't asked for before this moment.
     pub(crate) counts_at: Duration,
-    /// How many facts of its own each other node told of at most by what is neither taken nor given up.
+    /// The greatest number of its own facts that each other node sent in tellings that are neither
+    /// taken nor given up.
     pub(crate) untaken: Front,
-    /// How many tellings of each are neither.
+    /// How many tellings of each node are neither taken nor given up.
     pub(crate) tellings: Front,
 }
 
@@ -53,7 +54,7 @@ impl Known {
         }
     }
 
-    /// Takes in how many facts of each node this one has at least.
+    /// Records that this node has at least these facts of each node.
     pub(crate) fn learn(&mut self, front: &Front)
         ensures { self.new ≡ learnt front.now self.old }
     {
@@ -78,7 +79,8 @@ impl Known {
         }
     }
 
-    /// Notes that another node told that it has so many facts of its own. One telling more of it is left.
+    /// Records that another node sent a telling with this many facts of its own. One more telling
+    /// of that node is left.
     pub(crate) fn hear(&mut self, other: NodeId, told: u64)
         ensures { self.new ≡ told_by_it other told self.old }
     {
@@ -87,7 +89,7 @@ impl Known {
         self.set_untaken(other, most, left);
     }
 
-    /// Notes that one of its tellings is taken or given up.
+    /// Records that one of its tellings is taken or given up.
     pub(crate) fn settle(&mut self, other: NodeId)
         ensures { self.new ≡ settled other self.old }
     {
@@ -96,7 +98,7 @@ impl Known {
         self.set_untaken(other, told, left);
     }
 
-    /// Notes the end of one with this front, which was taken or wasn't.
+    /// Records the end of a telling with this front, which was taken or wasn't.
     pub(crate) fn end(&mut self, other: NodeId, front: &Front, is_taken: bool)
         ensures { self.new ≡ ended_by other front.now is_taken self.old }
     {
@@ -106,8 +108,8 @@ impl Known {
         self.settle(other);
     }
 
-    /// Whether one that asks counts fewer of its own facts than it told of, which aren't here either
-    /// yet.
+    /// Whether a node that asks counts fewer of its own facts than it sent, and this node doesn't
+    /// have them yet either.
     pub(crate) fn is_owed(&self, from: NodeId, asks: &Front) -> bool
         ensures { result ≡ is_owed from asks.now self.now }
     {
@@ -115,14 +117,14 @@ impl Known {
         asks.count(from) < told && self.front.count(from) < told
     }
 
-    /// Whether it is to be asked at this moment how many facts the node has.
+    /// Whether it is time to ask how many facts the node has.
     pub(crate) fn is_due(&self, now: Duration) -> bool
         ensures { result ≡ (self.now.is_to_count && is_by now self.now.counts_at) }
     {
         self.is_to_count && self.counts_at.as_nanos() <= now.as_nanos()
     }
 
-    /// Has it asked at this moment, and then not for a while.
+    /// Records that this is asked at this moment, and not again for a while.
     pub(crate) fn begin(&mut self, now: Duration)
         ensures at { IsAfter 50 now self.new.counts_at }
         ensures rest { self.new ≡ record { front = self.old.front; is_counted = self.old.is_counted; is_to_count = false; counts_at = self.new.counts_at; untaken = self.old.untaken; tellings = self.old.tellings } }

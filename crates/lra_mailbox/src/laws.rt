@@ -28,8 +28,8 @@ ghost use Rattle.lra_mailbox.specs.Tasks.{IsFirstAfter, IsNextTask, StoresNothin
 ghost use Rattle.lra_mailbox.specs.declared.task.Task.{Task as TheTask};
 ghost use Rattle.lra_mailbox.specs.declared.turn.Turn.{Turn as TheTurn};
 
-/// Each kind of task has its turn: while there is a task of a kind, it is done, or its turn comes
-/// nearer. So tasks of each other kind go before it once at most.
+/// Each kind of task gets its turn: while there is a task of a kind, it is done, or its turn comes
+/// nearer. So at most one task of each other kind goes before it.
 pub fn each_kind_has_its_turn()
     ensures nearer { (is_there : TheTurn → Bool) (last next kind : TheTurn) →
         IsFirstAfter last is_there next → is_there kind ≡ true →
@@ -37,9 +37,9 @@ pub fn each_kind_has_its_turn()
     ensures few { (last kind : TheTurn) → turns_to last kind ≤ 7 }
 {}
 
-/// Nobody waits beyond the moment when there is something to do: of what lies in the mailbox
-/// nothing becomes a task before the wait is over. Chores are apart: for those it looks each quarter
-/// of a second.
+/// The writer thread never waits beyond the moment when there is something to do: nothing in the
+/// mailbox becomes a task before the wait is over. Chores are the exception: it looks for them
+/// every quarter of a second.
 pub fn a_wait_is_over_when_there_is_a_task()
     ensures { (mail : Mail) (now later : TheDuration) →
         is_chore later mail.sweeps ≡ is_chore now mail.sweeps →
@@ -47,9 +47,10 @@ pub fn a_wait_is_over_when_there_is_a_task()
         has_task later mail ≡ true → as_nanos (rests_until now mail) ≤ as_nanos later }
 {}
 
-/// Nothing is purged before its time. A root is remembered only since when a look showed what its tree shows, and each look since has; and
-/// the tree is purged, as one that shows this, only once that is so long ago as is said of those that show this. Whatever else happens, what
-/// is remembered stays true.
+/// Nothing is purged before its time. A root is remembered with the moment since when looks have
+/// shown what its tree shows: the look at that moment did, and so has each look since. The tree is
+/// purged, as one that shows this, only once that moment is as long ago as trees that show this are
+/// to be kept. Whatever else happens, what is remembered stays true.
 pub fn nothing_is_purged_before_its_time()
     ensures none { AreSince [] [] }
     ensures seen { (now : TheDuration) (id : Id) (shown seen : TheStatus) (sights : List Sight) (old new : Sweeps) →
@@ -69,8 +70,9 @@ pub fn nothing_is_purged_before_its_time()
         WasKept old.keep now kept sights × (new ≡ old) }
 {}
 
-/// What is due is purged. While no look goes on, the next chore is the purge of the first root that is due; a look goes on beyond the last LRA
-/// that it was told of; and a purge that is tried later is tried after a second at least, and after a minute at most.
+/// What is due is purged. While no look is under way, the next chore is the purge of the first root
+/// that is due. A look goes on beyond the last LRA that it was shown. A purge that is tried again
+/// is tried after at least a second, and at most a minute.
 pub fn what_is_due_is_purged()
     ensures due { (now : TheDuration) (root : Root) (old new : Sweeps) (chore : Option TheChore) →
         sweeps old ≡ true → old.looks ≡ false → first_due old.keep now old.ended ≡ Some root →
@@ -81,22 +83,25 @@ pub fn what_is_due_is_purged()
     ensures pauses { (pause : ℕ) → (FIRST_PAUSE_MS ≤ next_pause pause) × (next_pause pause ≤ LAST_PAUSE_MS) }
 {}
 
-/// What is kept for ever is never purged: a tree that showed last that it goes on, or what those show that are kept for ever.
+/// What is kept for ever is never purged: a tree that last showed that it is still going on, or a
+/// status whose trees are kept for ever.
 pub fn what_is_kept_for_ever_is_never_purged()
     ensures { (now : TheDuration) (kept : Kept) (seen : TheStatus) (sights : List Sight) (old new : Sweeps) →
         IsNextChore now old new (Some (Purge kept)) → AreSince sights old.ended →
         last_seen kept.root sights ≡ Some seen → time_of old.keep seen ≡ None → ⊥ }
 {}
 
-/// Before the other nodes are heard, and while the journal is spared, the thread that enters does nothing that stores a fact of the node's
-/// own, for operators neither: it has no such task.
+/// Before the other nodes are heard, and while nothing may be stored because the journal failed,
+/// the writer thread does nothing that stores a fact of the node's own, not even for operators: it
+/// has no such task.
 pub fn nothing_is_entered_before_the_others_are_heard()
     ensures { (now : TheDuration) (old new : Mail) (task : TheTask) →
         may_enter now old ≡ false → IsNextTask now old new task → StoresNothing task }
 {}
 
-/// Who is answered lacks none of its own facts that it told here, but for those that are stored here and so are in the answer. What it is
-/// owed it is owed until that is stored or given up: whatever else is heard, and whatever else is taken or given up.
+/// A node that is answered lacks none of its own facts that it sent here, except those that are
+/// stored here and so are in the answer. What it is owed stays owed until that is stored or given
+/// up, whatever else is heard, taken or given up.
 pub fn who_is_answered_lacks_nothing_that_it_told()
     ensures told { (from told : ℕ) (asks : List ℕ) (known : TheKnown) → 1 ≤ from → is_counted_by from known ≡ true →
         is_owed from asks (told_by_it from told known) ≡ false →
@@ -108,9 +113,11 @@ pub fn who_is_answered_lacks_nothing_that_it_told()
         is_owed from asks known ≡ true → is_owed from asks (settled other known) ≡ true }
 {}
 
-/// Nobody is called by a list for what was heard behind the asking. While a list is out, each participant whose answer is entered, and each
-/// of whom it is said what became of it, is noted as heard, and stays so. Of the list those alone are put who weren't heard; or, if memory
-/// ran out for noting one, nothing of it, and it is asked for anew.
+/// No list calls a participant for what was learned after the list was asked for. While a list is
+/// pending, each participant whose answer is recorded, and each whose outcome is reported, is
+/// marked as heard from, and stays so. Of the list, only the duties of participants that weren't
+/// heard from are put. If memory ran out for marking one, nothing of the list is put, and a new one
+/// is asked for.
 pub fn nobody_is_called_for_what_was_heard_behind_the_asking()
     ensures answered { (said : Said) (now : TheDuration) (old new : Mail) → old.since.is_out ≡ true →
         IsNoted said now old new → IsHeardIn (called_of said.duty) new.since }

@@ -1,5 +1,6 @@
-//! What the thread that enters is to do next: of what those that call and pull hand to it, of what
-//! operators want, and of what its home's sweep purges. It knows no thread, no lock and no clock: each moment is handed in.
+//! Decides what the writer thread does next with what callers and pullers hand to it, what
+//! operators want, and what the sweep of its home purges. It knows no thread, no lock and no clock:
+//! each moment is passed in.
 #![tactic(auto)]
 
 mod asking;

@@ -1,4 +1,4 @@
-// When a node looks through its home.
+// Decides when a node looks through its home.
 ghost use Rattle.std.specs.Prelude.{◌≡◌, false, true};
 ghost use Rattle.lra_mailbox.specs.declared.looking.TheConstants.{MANY};
 ghost use Rattle.lra_mailbox.specs.Looks.{Begins, has_changed, is_to_look, look_pause, looked_over, may_be_many, missed, with_begun, with_purged, with_stir};
@@ -10,41 +10,42 @@ use std::time::Duration;
 /// How often the home is looked through at most.
 const LOOK_MS: u64 = 250;
 
-/// How often where many of its places are taken.
+/// How often at most if many of its places are taken.
 const LOOK_OF_MANY_MS: u64 = 50;
 
 /// How often it is looked through at most to know what its LRAs show.
 const LOOK_TO_COUNT_MS: u64 = 1_000;
 
-/// How many are many: half of a home's places.
+/// From how many on places count as many: half of a home's places.
 const HALF: u64 = MAX_HELD as u64 / 2;
 
-/// How many of its places are taken before that is to be told: three quarters.
+/// From how many taken places on a warning is due: three quarters.
 pub const MANY: u64 = MAX_HELD as u64 / 4 * 3;
 
 /// When the home is looked through, and why.
 #[derive(Drop)]
 pub(crate) struct Looking {
-    /// Whether it is to be known how full the home is, and what its LRAs show.
+    /// Whether anybody wants to know how full the home is, and what its LRAs show.
     pub(crate) counts: bool,
     pub(crate) is_watched: bool,
     /// Whether an LRA may have ended since the last look.
     pub(crate) is_stirred: bool,
-    /// How many were begun since then, at most.
+    /// The most LRAs that may have been begun since then.
     pub(crate) begun: u64,
     /// Whether some were purged since then.
     pub(crate) has_purged: bool,
-    /// Whether there was no room for one that has ended.
+    /// Whether there was no room to remember an LRA that has ended.
     pub(crate) has_missed: bool,
-    /// How many the last look found.
+    /// How many LRAs the last look found.
     pub(crate) taken: u64,
-    /// When the next look may begin at the earliest, and when to know what the home's LRAs show.
+    /// The earliest moment for the next look, and for a look that is only to know what the home's
+    /// LRAs show.
     pub(crate) looks_at: Duration,
     pub(crate) counts_at: Duration,
 }
 
 impl Looking {
-    /// How many there are is to be known at the start.
+    /// Makes the schedule at a start, when the number of LRAs is to be found out.
     pub(crate) fn new(counts: bool, is_watched: bool) -> Looking
         ensures { result ≡ record { counts = counts; is_watched = is_watched; is_stirred = true; begun = MANY; has_purged = false; has_missed = false; taken = 0; looks_at = at_once; counts_at = at_once } }
     {
@@ -61,28 +62,28 @@ impl Looking {
         }
     }
 
-    /// Notes that an LRA may have ended.
+    /// Records that an LRA may have ended.
     pub(crate) fn stir(&mut self)
         ensures { self.new ≡ with_stir self.old }
     {
         self.is_stirred = true;
     }
 
-    /// Notes that LRAs were purged.
+    /// Records that LRAs were purged.
     pub(crate) fn note_purged(&mut self)
         ensures { self.new ≡ with_purged self.old }
     {
         self.has_purged = true;
     }
 
-    /// Notes that an LRA was begun.
+    /// Records that an LRA was begun.
     pub(crate) fn note_begun(&mut self)
         ensures { self.new ≡ with_begun self.old }
     {
         self.begun = self.begun.saturating_add(1);
     }
 
-    /// Notes that there was no room for one that has ended.
+    /// Records that there was no room to remember an LRA that has ended.
     pub(crate) fn note_missed(&mut self)
         ensures { self.new ≡ missed self.old }
     {
@@ -101,8 +102,9 @@ impl Looking {
         self.begun > 0 || (self.is_stirred || self.has_purged)
     }
 
-    /// Whether the home is to be looked through at this moment: some may have ended that are to be purged, or so many were begun that
-    /// their count is to be known; or, once in a while, something else may have changed that is to be known.
+    /// Whether to look through the home at this moment: because LRAs that are to be purged may have
+    /// ended, or so many were begun that their number must be known; or, once in a while, because
+    /// something else that is to be known may have changed.
     pub(crate) fn is_to_look(&self, purges: bool, now: Duration) -> bool
         ensures { result ≡ is_to_look now purges self.now }
     {
@@ -114,7 +116,7 @@ impl Looking {
                     || (purges && self.is_stirred)))
     }
 
-    /// How long it is at least from the look that begins now to the next one, in milliseconds.
+    /// Returns the least time from a look that begins now to the next one, in milliseconds.
     fn pause(&self) -> u64
         ensures { result ≡ look_pause self.now }
     {
@@ -125,7 +127,7 @@ impl Looking {
         }
     }
 
-    /// Notes that a look begins.
+    /// Records that a look begins.
     pub(crate) fn begin(&mut self, now: Duration)
         ensures { Begins now self.old self.new }
     {
@@ -136,8 +138,8 @@ impl Looking {
         self.counts_at = now.saturating_add(Duration::from_millis(LOOK_TO_COUNT_MS));
     }
 
-    /// Notes that a look is over, which has found so many. Another follows if there was no room for
-    /// one that has ended.
+    /// Records that a look is over, which found `taken` LRAs. Another look follows if there was no
+    /// room to remember an LRA that has ended.
     pub(crate) fn end(&mut self, taken: u64)
         ensures { self.new ≡ looked_over taken self.old }
     {

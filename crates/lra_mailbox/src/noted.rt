@@ -1,4 +1,4 @@
-// What a call at the desk leaves for the threads to go on with.
+// The effects of a call at the desk, which the threads go on with.
 
 use lra_id::LraId;
 use lra_turns::Called;
@@ -6,39 +6,39 @@ use lra_turns::Called;
 /// Whether other participants may be due after a call.
 #[derive(Clone, Copy, Debug, PartialEq, Eq)]
 pub enum News {
-    /// None is that wasn't.
+    /// No participant is due that wasn't before.
     Nobody,
-    /// One may be where it was the last to complete: a completion was reported.
+    /// One may be due if it was the last to complete: a completion was reported.
     OfCompletion,
-    /// Some may be.
+    /// Some may be due.
     Others,
 }
 
-/// What became of an LRA by a call.
+/// What a call changed of an LRA.
 #[derive(Clone, Copy, Debug, PartialEq, Eq)]
 pub enum Became {
-    /// Nothing that is to be noted.
+    /// Nothing that matters here.
     Nothing,
-    /// One was begun.
+    /// An LRA was begun.
     Begun,
-    /// One couldn't be begun, since the home was full.
+    /// An LRA couldn't be begun, because the home was full.
     Full,
-    /// One may have ended.
+    /// An LRA may have ended.
     Ended,
-    /// One was purged, with those that are nested in it.
+    /// An LRA was purged, with those that are nested in it.
     Removed,
 }
 
-/// What a call at the desk leaves for the threads to go on with.
+/// The effects of a call at the desk, which the threads go on with.
 #[derive(Clone, Copy)]
 pub struct Noted {
     pub news: News,
     pub became: Became,
-    /// The LRA of which a participant was told what it was to be told, or is said to have been.
+    /// The LRA of which a participant was notified as it was to be, or is said to have been.
     pub freed: Option<LraId>,
-    /// Who said what became of it, or of whom that was said: a list of calls that was asked for before
-    /// doesn't call it.
+    /// The participant that reported its outcome, or whose outcome was reported: a list of duties
+    /// that was asked for earlier doesn't call it.
     pub heard: Option<Called>,
-    /// Whether a frame was taken: a participant of any LRA may have been told.
+    /// Whether a frame was taken: a participant of any LRA may have been notified.
     pub took: bool,
 }

@@ -1,4 +1,4 @@
-// Whether commands are entered yet. At a start they wait for what other nodes tell.
+// Decides whether commands are accepted yet. At a start they wait for what other nodes send.
 ghost use Rattle.lra_id.specs.declared.TheConstants.{MAX_NODES};
 ghost use Rattle.std.specs.Prelude.{◌≡◌, ◌≤◌, ◌&&◌, ◌↔◌, IsTrue, None, false, length, nat_le, not, replicate};
 ghost use Rattle.std.specs.Duration.{as_nanos};
@@ -9,25 +9,25 @@ ghost use Rattle.lra_mailbox.specs.Starts.{IsLookedAt, IsNextLook, IsOpened, IsO
 use lra_id::{Front, NodeId};
 use std::time::Duration;
 
-/// How long a start waits at most for what other nodes tell, before it enters anything of its own,
-/// in milliseconds; unless it waits for all of them.
+/// How long a start waits at most for what other nodes send before it stores anything of its own,
+/// in milliseconds, unless it waits for all of them.
 pub const OPENING_MS: u64 = 1_000;
 
-/// Whether a node wasn't heard, by how often it was.
+/// Whether a node wasn't heard from, given how often it was.
 fn is_silent(count: u64) -> bool
     ensures { result ≡ is_silent count }
 {
     count == 0
 }
 
-/// Whether one of some nodes wasn't heard, by how often each was.
+/// Whether some node wasn't heard from, given how often each was.
 fn is_any_silent(counts: &[u64]) -> bool
     ensures { result ≡ list_any is_silent counts.now }
 {
     counts.iter().any(|count| is_silent(*count))
 }
 
-/// When it is looked again whether it opens: later, where it is late.
+/// Returns when to check again whether to open: later, if it is late.
 fn next_look(is_late: bool, now: Duration, until: Duration) -> Duration
     ensures { IsNextLook is_late now until result }
 {
@@ -38,21 +38,21 @@ fn next_look(is_late: bool, now: Duration, until: Duration) -> Duration
     }
 }
 
-/// Whether one with so many facts of its own has as many as is claimed.
+/// Whether a node with `own` facts of its own has as many as is claimed.
 fn is_met(own: u64, claim: u64) -> bool
     ensures { result ≡ is_met own claim }
 {
     claim <= own
 }
 
-/// Whether it has as many as each claims.
+/// Whether it has as many as each node claims.
 fn are_met(own: u64, claims: &[u64]) -> bool
     ensures { result ≡ are_met own claims.now }
 {
     claims.iter().all(|claim| is_met(own, *claim))
 }
 
-/// These with another number at a node's place, if there is one.
+/// Returns the counts with another number for a node, if it has a place there.
 pub(crate) fn count_at(node: NodeId, count: u64, mut counts: Front) -> Front
     ensures { result ≡ count_at node count counts }
 {
@@ -62,7 +62,7 @@ pub(crate) fn count_at(node: NodeId, count: u64, mut counts: Front) -> Front
     counts
 }
 
-/// The same once a node was heard too.
+/// Returns the counts after a node was heard from too.
 fn heard_with(node: NodeId, mut heard: Front) -> Front
     ensures { result ≡ heard_with node heard }
 {
@@ -72,30 +72,30 @@ fn heard_with(node: NodeId, mut heard: Front) -> Front
     heard
 }
 
-/// Whether commands are entered yet.
+/// Whether commands are accepted yet.
 #[derive(Drop)]
 pub(crate) struct Opening {
     pub(crate) me: NodeId,
-    /// Whether it waits until all others were heard, without a bound.
+    /// Whether it waits without limit until all others were heard from.
     pub(crate) waits_for_all: bool,
     pub(crate) is_open: bool,
-    /// When they are at the latest, or when that is looked at again.
+    /// When they are accepted at the latest, or when that is checked again.
     pub(crate) opens_at: Option<Duration>,
-    /// Whether it has waited as long as it may, and wasn't opened.
+    /// Whether it has waited as long as it may, and didn't open.
     pub(crate) is_late: bool,
-    /// 1 for the node itself and for each other that was heard since the start.
+    /// 1 for the node itself and for each other node that was heard from since the start.
     pub(crate) heard: Front,
-    /// How many facts of each node the others told of.
+    /// How many facts of each node the others sent.
     pub(crate) awaited: Front,
-    /// How many facts of this node each other claimed to have when it asked, since it last answered; and
-    /// what it had claimed before that. Anybody who can connect may claim something.
+    /// How many facts of this node each other node claimed to have when it asked, since it last
+    /// answered; and what it had claimed before that. Anybody who can connect may claim something.
     pub(crate) claimed: Front,
     pub(crate) doubtful: Front,
 }
 
 impl Opening {
-    /// Of a node of so many in all, which hears the others first if they are apart: for a second, or
-    /// until it has heard them all.
+    /// Makes the state of a node in a group of `nodes` nodes. If the others are in other processes,
+    /// it hears from them first: for a second, or until it has heard from them all.
     pub(crate) fn new(me: NodeId, nodes: u8, are_apart: bool, waits_for_all: bool) -> Opening
         requires { (1 ≤ nodes) × (nodes ≤ MAX_NODES) }
         ensures { result ≡ record {
@@ -123,7 +123,7 @@ impl Opening {
         }
     }
 
-    /// When it opens at the latest, or that is looked at.
+    /// Returns when it opens at the latest, or when that is checked again.
     fn opens_by(&self, now: Duration) -> Duration
         ensures { IsOpenedBy now self.now.opens_at result }
     {
@@ -133,14 +133,15 @@ impl Opening {
         }
     }
 
-    /// Whether each other node was heard.
+    /// Whether each other node was heard from.
     fn are_heard(&self) -> bool
         ensures { result ≡ are_heard self.now.heard }
     {
         !is_any_silent(self.heard.as_slice())
     }
 
-    /// Whether one that has these facts has all of its own that another told, or claims to have.
+    /// Whether a node with this front has all facts of its own that another node sent or claims to
+    /// have.
     fn has_own(&self, front: &Front) -> bool
         ensures { result ≡ has_own front.now self.now }
     {
@@ -149,7 +150,7 @@ impl Opening {
             && (are_met(own, self.claimed.as_slice()) && are_met(own, self.doubtful.as_slice()))
     }
 
-    /// Whether one that has these facts needs to hear no more of others.
+    /// Whether a node with this front needn't hear more from the others.
     fn is_ready(&self, is_over: bool, front: &Front) -> bool
         ensures { IsTrue result ↔ IsReady is_over front.now self.now }
     {
@@ -162,7 +163,7 @@ impl Opening {
         self.awaited.below(front)
     }
 
-    /// Whether it is opened at a look by one that has these facts.
+    /// Whether a check opens it, if the node has this front.
     fn is_opened(&self, is_over: bool, front: &Front) -> bool
         ensures { IsLookedAt is_over front.now self.now result }
     {
@@ -172,9 +173,9 @@ impl Opening {
         self.is_ready(is_over, front)
     }
 
-    /// Has commands entered from here on, if it has all facts of its own of which others told, and
-    /// all others were heard and what they told is taken; later, once a second is over, if all were
-    /// heard or it doesn't wait for all. It says whether that begins now.
+    /// Accepts commands from here on, if the node has all facts of its own that others sent, all
+    /// others were heard from, and what they sent is taken; or, once a second is over, if all were
+    /// heard from or it doesn't wait for all. Returns whether this begins now.
     pub(crate) fn open_if_due(&mut self, now: Duration, front: &Front) -> bool
         ensures { IsOpened now front.now self.old self.new result }
     {
@@ -191,8 +192,9 @@ impl Opening {
         opens
     }
 
-    /// Notes what another node told to one that has these facts. Where that is more of this node's
-    /// own facts, nothing is entered from here on until they are taken: its journal is older.
+    /// Records what another node sent to this node, which has the front `known`. If that has more
+    /// of this node's own facts, nothing is stored from here on until they are taken: this node's
+    /// journal is older.
     pub(crate) fn hear(&mut self, other: NodeId, told: &Front, known: &Front)
         ensures { self.new ≡ heard_by other told.now known.now self.old }
     {
@@ -206,9 +208,10 @@ impl Opening {
         self.is_open = self.is_open && told.count(self.me) <= known.count(self.me);
     }
 
-    /// Notes that another node, which asks, claims to have so many facts of this one. A start waits
-    /// for them, until that node has answered twice since: the second answer was asked for behind
-    /// the claim, and so has what was claimed, unless that is gone there or was never so.
+    /// Records that another node, which asks, claims to have this many facts of this one. A start
+    /// waits for them until that node has answered twice since. The second answer was asked for
+    /// after the claim, so it has what was claimed, unless the other node has lost that or never
+    /// had it.
     pub(crate) fn hear_claim(&mut self, other: NodeId, count: u64)
         ensures { self.new ≡ claimed_by other count self.old }
     {
@@ -219,7 +222,7 @@ impl Opening {
         self.claimed = count_at(other, more, self.claimed);
     }
 
-    /// Has nothing entered before it has so many facts of its own.
+    /// Makes the node store nothing before it has this many facts of its own.
     pub(crate) fn wait_for_own(&mut self, count: u64)
         ensures { self.new ≡ own_awaited count self.old }
     {
@@ -228,21 +231,21 @@ impl Opening {
         self.is_open = false;
     }
 
-    /// How many facts of this node another claims to have.
+    /// Returns how many facts of this node another claims to have.
     pub(crate) fn claim_of(&self, other: NodeId) -> u64
         ensures { result ≡ claim_of other self.now }
     {
         self.claimed.count(other).max(self.doubtful.count(other))
     }
 
-    /// Has a start wait for all others, however long that takes.
+    /// Makes a start wait for all others, however long that takes.
     pub(crate) fn wait_for_all(&mut self)
         ensures { self.new ≡ patient self.old }
     {
         self.waits_for_all = true;
     }
 
-    /// Has commands wait for these facts too.
+    /// Makes commands wait for these facts too.
     pub(crate) fn wait_for(&mut self, told: &Front)
         ensures { self.new ≡ with_awaited told.now self.old }
     {

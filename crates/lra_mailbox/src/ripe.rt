@@ -4,8 +4,8 @@ ghost use Rattle.std.specs.Prelude.{◌≡◌};
 use lra_id::{LraId, LraStatus};
 use std::marker::Model;
 
-/// A root that was kept as long as is said, and what it showed whenever it was seen meanwhile. Only
-/// `Sweeping::next` makes one.
+/// A root that was kept for as long as it is to be, and what it showed in every look meanwhile.
+/// Only `Sweeping::next` makes one.
 #[derive(Drop)]
 pub struct Ripe {
     root: LraId,
@@ -27,14 +27,14 @@ impl Ripe {
         Ripe { root, seen }
     }
 
-    /// The root.
+    /// Returns the root.
     pub fn root(&self) -> LraId
         ensures { result ≡ self.now.root }
     {
         self.root
     }
 
-    /// What it showed.
+    /// Returns what it showed.
     pub fn seen(&self) -> LraStatus
         ensures { result ≡ self.now.seen }
     {

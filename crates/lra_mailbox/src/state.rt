@@ -1,4 +1,4 @@
-// What lies under the lock of a node's mailbox.
+// The state that the lock of a node's mailbox guards.
 ghost use Rattle.std.specs.Prelude.{◌≡◌, ◌≤◌, ◌-◌, ◌||◌, [], IfNone, None, false, is_some, length, nat_lt, not, replicate, true};
 ghost use Rattle.lra_turns.specs.Calling.{nothing};
 ghost use Rattle.lra_turns.specs.Resuming.{ResumesAt};
@@ -37,10 +37,11 @@ use std::collections::VecDeque;
 use std::marker::Model;
 use std::time::Duration;
 
-/// From how long on a call counts as late, in nanoseconds.
+/// How long a call must take to count as late, in nanoseconds.
 const SLOW_NANOS: u128 = 1_000_000_000;
 
-/// Whether finishing this duty makes no other duty due: it is a completion, or told of an end.
+/// Whether finishing this duty makes no other duty due: it is a completion, or the notification of
+/// an end.
 fn makes_none_due(duty: &Duty) -> bool
     ensures { result ≡ is_harmless duty.now.kind duty.now.act }
 {
@@ -51,7 +52,7 @@ fn makes_none_due(duty: &Duty) -> bool
     }
 }
 
-/// How a host answered whose call took so long, and was heard or came to nothing.
+/// Returns the pace of a host whose call took this long, and was heard or failed.
 fn pace_of(time: Duration, is_heard: bool) -> Pace
     ensures { result ≡ pace_of time is_heard }
 {
@@ -63,7 +64,7 @@ fn pace_of(time: Duration, is_heard: bool) -> Pace
     }
 }
 
-/// The earlier of two moments.
+/// Returns the earlier of two moments.
 fn earlier_of(one: Duration, other: Duration) -> Duration
     ensures { result ≡ earlier_of one other }
 {
@@ -74,7 +75,7 @@ fn earlier_of(one: Duration, other: Duration) -> Duration
     }
 }
 
-/// What the threads of a node hand to one another, and what is to be done of it when.
+/// What the threads of a node hand to one another, and when what is to be done with it.
 #[derive(Drop)]
 pub struct MailboxState {
     calls: Calls,
@@ -83,18 +84,18 @@ pub struct MailboxState {
     known: Known,
     opening: Opening,
     asking: Asking,
-    /// Until when nothing is entered: the journal failed.
+    /// Until when nothing is stored, because the journal failed.
     held_until: Duration,
-    /// Which kind of task was looked for last.
+    /// The kind of task that had its turn last.
     last: Turn,
-    /// Whether the thread that enters is to look whether the run is over.
+    /// Whether the writer thread is to check whether the run is over.
     is_hurried: bool,
     has_ended: bool,
     /// What operators want.
     wanted: Wanted,
-    /// What has ended, and is to be purged.
+    /// The LRAs that have ended and are to be purged.
     sweeping: Sweeping,
-    /// Who was heard since a list of those who are to be called was asked for that isn't put yet.
+    /// The participants that were heard from since the pending list of duties was asked for.
     since: HeardSince,
 }
 
@@ -121,9 +122,10 @@ impl Model for MailboxState {
 }
 
 impl MailboxState {
-    /// With nothing in it, of a node of so many in all. Of its own front nothing is known yet. Where
-    /// the others are in processes of their own it is asked first, and then they are, before commands
-    /// are entered: for a second, or until it has heard them all.
+    /// Makes an empty mailbox for a node in a group of `nodes` nodes. Nothing is known yet about
+    /// its own front. If the others are in processes of their own, the front is asked for first,
+    /// and then the others are heard from before commands are accepted: for a second, or until all
+    /// were heard from.
     pub fn new(
         alloc: Global,
         me: NodeId,
@@ -166,15 +168,15 @@ impl MailboxState {
         }
     }
 
-    /// Whom the threads are to call.
+    /// Returns the participants that the threads are to call.
     pub fn calls(&self) -> &Calls
         ensures { result.now ≡ self.now.calls }
     {
         &self.calls
     }
 
-    /// Has it asked who is to be called: now; or, after what makes nobody else due, when deadlines
-    /// are looked at, while others wait. A list of all that is due may be long.
+    /// Asks for a new list of duties: at once or, if nothing new is due by what happened and others
+    /// still wait, when deadlines are next checked. A list of all duties may be long.
     pub fn stir(&mut self, makes_none_due: bool)
         ensures { self.new ≡ after_news makes_none_due self.old }
     {
@@ -185,7 +187,7 @@ impl MailboxState {
         }
     }
 
-    /// Has it asked who is to be called, where somebody may be.
+    /// Asks for a new list of duties, if a participant may be due.
     fn hear_news(&mut self, news: News)
         ensures { self.new ≡ with_news news self.old }
     {
@@ -196,7 +198,7 @@ impl MailboxState {
         }
     }
 
-    /// Notes what a call at the desk leaves to go on with.
+    /// Records the effects of a call at the desk.
     pub fn note(&mut self, noted: &Noted, now: Duration)
         ensures { Notes noted.now now self.old self.new }
     {
@@ -210,7 +212,7 @@ impl MailboxState {
         }
     }
 
-    /// Tells the sweep of an LRA on a page: what it shows, and what its tree shows.
+    /// Shows the sweep an LRA on a page: what it shows, and what its tree shows.
     pub fn see(&mut self, now: Duration, id: LraId, shown: LraStatus, seen: LraStatus)
         ensures seen { IsSeen now id shown seen self.old.sweeps self.new.sweeps }
         ensures rest { self.new ≡ with_sweeps self.new.sweeps self.old }
@@ -218,28 +220,30 @@ impl MailboxState {
         self.sweeping.see(now, id, shown, seen);
     }
 
-    /// Tells it that the page is over, and whether more follow.
+    /// Tells the sweep that the page is over, and whether more pages follow.
     pub fn turn(&mut self, more: bool)
         ensures { self.new ≡ with_sweeps (turned more self.old.sweeps) self.old }
     {
         self.sweeping.turn(more);
     }
 
-    /// Tells it what came of a purge.
+    /// Tells the sweep the result of a purge.
     pub fn purged(&mut self, now: Duration, id: LraId, purged: Purged)
         ensures { self.new ≡ with_sweeps (left_by purged id now self.old.sweeps) self.old }
     {
         self.sweeping.purged(now, id, purged);
     }
 
-    /// How many LRAs of the home showed each status at the last look, in the order of their ranks.
+    /// Returns how many LRAs of the home showed each status at the last look, in the order of their
+    /// ranks.
     pub fn held(&self) -> [u64; STATUSES]
         ensures { result ≡ self.now.sweeps.counts.held }
     {
         self.sweeping.held()
     }
 
-    /// How full the home is, and whether none could be begun for that since this was last asked.
+    /// Returns how full the home is, and whether an LRA couldn't be begun because of that since
+    /// this was last asked.
     pub fn fill(&mut self) -> Fill
         ensures fill { result ≡ fill_of self.old.sweeps }
         ensures told { self.new ≡ with_sweeps (with_full false self.old.sweeps) self.old }
@@ -247,35 +251,35 @@ impl MailboxState {
         self.sweeping.fill()
     }
 
-    /// Whether it is to be asked now who is to be called.
+    /// Whether a new list of duties is to be asked for now.
     pub fn is_stirred(&self) -> bool
         ensures { result ≡ self.now.asking.is_stirred }
     {
         self.asking.is_stirred
     }
 
-    /// Has nothing entered until this moment.
+    /// Makes nothing be stored until this moment.
     pub fn hold_until(&mut self, until: Duration)
         ensures { self.new ≡ with_hold until self.old }
     {
         self.held_until = until;
     }
 
-    /// Whether nothing is to be stored at this moment, since the journal failed.
+    /// Whether nothing is to be stored at this moment, because the journal failed.
     pub fn is_spared(&self, now: Duration) -> bool
         ensures { result ≡ is_spared now self.now }
     {
         now.as_nanos() < self.held_until.as_nanos()
     }
 
-    /// Whether commands are entered, as far as other nodes are concerned.
+    /// Whether commands are accepted, as far as other nodes are concerned.
     pub fn is_open(&self) -> bool
         ensures { result ≡ self.now.opening.is_open }
     {
         self.opening.is_open
     }
 
-    /// Has the next look for a task come to none, so that the thread that enters looks whether the
+    /// Makes the next request for a task return none, so that the writer thread checks whether the
     /// run is over.
     pub fn hurry(&mut self)
         ensures { self.new ≡ with_hurry true self.old }
@@ -283,14 +287,15 @@ impl MailboxState {
         self.is_hurried = true;
     }
 
-    /// Notes what operators want.
+    /// Records what operators want.
     pub fn want(&mut self, wanted: Wanted)
         ensures { self.new ≡ with_wanted wanted self.old }
     {
         self.wanted = wanted;
     }
 
-    /// Wants no call for operators any more. It says whether one was wanted still: else it was made, or is being made.
+    /// Withdraws the call that operators want. Returns whether one was still wanted: otherwise it
+    /// was made, or is being made.
     pub fn take_back(&mut self) -> bool
         ensures back { result ≡ is_any self.old.wanted }
         ensures rest { self.new ≡ with_wanted Nothing self.old }
@@ -300,7 +305,7 @@ impl MailboxState {
         is_back
     }
 
-    /// Notes that the program is to end.
+    /// Records that the program is to end.
     pub fn end(&mut self)
         ensures { self.new ≡ with_end self.old }
     {
@@ -314,42 +319,42 @@ impl MailboxState {
         self.has_ended
     }
 
-    /// Takes in how many facts of each node this one has at least.
+    /// Records that this node has at least these facts of each node.
     pub fn learn(&mut self, front: &Front)
         ensures { self.new ≡ with_known (learnt front.now self.old.known) self.old }
     {
         self.known.learn(front);
     }
 
-    /// How many facts of each node this one has at least.
+    /// Returns how many facts of each node this one has at least.
     pub fn front(&self) -> Front
         ensures { result ≡ self.now.known.front }
     {
         self.known.front
     }
 
-    /// Notes that it is known how many facts the node has.
+    /// Records that it is known how many facts the node has.
     pub fn note_counted(&mut self)
         ensures { self.new ≡ with_known (counted self.old.known) self.old }
     {
         self.known.is_counted = true;
     }
 
-    /// Whether that is known.
+    /// Whether it is known how many facts the node has.
     pub fn is_counted(&self) -> bool
         ensures { result ≡ self.now.known.is_counted }
     {
         self.known.is_counted
     }
 
-    /// Notes that it is to be asked how many facts the node has.
+    /// Records that the number of the node's facts is to be asked for.
     pub fn want_count(&mut self)
         ensures { self.new ≡ with_known (to_count self.old.known) self.old }
     {
         self.known.is_to_count = true;
     }
 
-    /// Notes that another node answered, and what it told.
+    /// Records that another node answered, and what it sent.
     pub fn note_heard(&mut self, other: NodeId, telling: &Telling)
         ensures { self.new ≡ with_known (told_by_it other (count telling.now.frame.front other) self.old.known) (with_opening
             (heard_by other telling.now.frame.front self.old.known.front self.old.opening) self.old) }
@@ -359,74 +364,76 @@ impl MailboxState {
         self.known.hear(other, told.count(other));
     }
 
-    /// Notes that what another node told isn't put: nothing of it is new, or the program is to end.
+    /// Records that a telling of another node isn't put: nothing in it is new, or the program is to
+    /// end.
     pub fn drop_telling(&mut self, other: NodeId)
         ensures { self.new ≡ with_known (settled other self.old.known) self.old }
     {
         self.known.settle(other);
     }
 
-    /// Notes the end of what another node told, which has this front: it is here, or won't be.
+    /// Records the end of a telling of another node, which has this front: it was taken here, or
+    /// won't be.
     pub fn end_telling(&mut self, other: NodeId, front: &Front, is_taken: bool)
         ensures { self.new ≡ with_known (ended_by other front.now is_taken self.old.known) self.old }
     {
         self.known.end(other, front, is_taken);
     }
 
-    /// Notes that another node, which asks this one, counts so many facts of it. A start waits for
-    /// them, until that node has answered this one twice since.
+    /// Records that another node, which asks this one, counts this many facts of this node. A start
+    /// waits for them until that node has answered this one twice since.
     pub fn hear_claim(&mut self, other: NodeId, count: u64)
         ensures { self.new ≡ with_opening (claimed_by other count self.old.opening) self.old }
     {
         self.opening.hear_claim(other, count);
     }
 
-    /// Has nothing entered before this node has so many facts of its own.
+    /// Makes this node store nothing before it has this many facts of its own.
     pub fn wait_for_own(&mut self, count: u64)
         ensures { self.new ≡ with_opening (own_awaited count self.old.opening) self.old }
     {
         self.opening.wait_for_own(count);
     }
 
-    /// How many facts of this node another claims to have, for which a start waits.
+    /// Returns how many facts of this node, for which a start waits, another node claims to have.
     pub fn claim_of(&self, other: NodeId) -> u64
         ensures { result ≡ claim_of other self.now.opening }
     {
         self.opening.claim_of(other)
     }
 
-    /// Whether one that asks is owed facts of its own: it told of more of them than it counts, and they
-    /// aren't stored here yet. It is answered once they are, so that a node whose journal is older hears of
-    /// each number that it gave.
+    /// Whether a node that asks is owed facts of its own: it sent more of them than it counts, and
+    /// they aren't stored here yet. It is answered once they are, so that a node whose journal is
+    /// older learns of each number that it gave.
     pub fn is_owed(&self, from: NodeId, asks: &Front) -> bool
         ensures { result ≡ is_owed from asks.now self.now.known }
     {
         self.known.is_owed(from, asks)
     }
 
-    /// Has a start wait for all others, however long that takes.
+    /// Makes a start wait for all others, however long that takes.
     pub fn wait_for_all(&mut self)
         ensures { self.new ≡ with_opening (patient self.old.opening) self.old }
     {
         self.opening.wait_for_all();
     }
 
-    /// Whether a start has waited for the others as long as it may, and wasn't opened.
+    /// Whether a start has waited for the others as long as it may, and didn't open.
     pub fn is_late(&self) -> bool
         ensures { result ≡ self.now.opening.is_late }
     {
         self.opening.is_late
     }
 
-    /// Has deadlines looked at at once.
+    /// Makes deadlines be checked at once.
     pub fn tick(&mut self)
         ensures { self.new ≡ with_asking (hastened self.old.asking) self.old }
     {
         self.asking.hasten();
     }
 
-    /// Has commands entered from here on, if all others were heard and what they told is taken, or
-    /// the time for that is over. It says whether that begins now.
+    /// Accepts commands from here on, if all others were heard from and what they sent is taken, or
+    /// the time for that is over. Returns whether this begins now.
     pub fn open_if_due(&mut self, now: Duration) -> bool
         ensures opened { IsOpened now self.old.known.front self.old.opening self.new.opening result }
         ensures rest { self.new ≡ with_opening self.new.opening self.old }
@@ -435,7 +442,7 @@ impl MailboxState {
         self.opening.open_if_due(now, &front)
     }
 
-    /// Has those wait for a call again whose pause is over. It says whether somebody may be called.
+    /// Queues each participant whose pause is over. Returns whether some participant may be called.
     pub fn resume_calls(&mut self, now: Duration) -> bool
         ensures resumed { ResumesAt self.old.calls.resumes_at now self.old.calls self.new.calls result }
         ensures rest { self.new ≡ with_calls self.new.calls self.old }
@@ -443,15 +450,16 @@ impl MailboxState {
         self.calls.resume(now)
     }
 
-    /// Whether anything of the node's own is entered at this moment.
+    /// Whether facts of the node's own may be stored at this moment.
     fn may_enter(&self, now: Duration) -> bool
         ensures { result ≡ may_enter now self.now }
     {
         self.opening.is_open && !self.is_spared(now)
     }
 
-    /// Whether there is a task of a kind at this moment. Before commands are entered, it takes what others
-    /// told, counts facts and answers operators' questions, and no more; while the journal is spared, these.
+    /// Whether there is a task of a kind at this moment. Before commands are accepted, tellings are
+    /// taken, facts are counted and operators' questions are answered, but nothing else. While
+    /// nothing may be stored because the journal failed, only operators' questions are.
     fn has(&self, kind: Turn, now: Duration) -> bool
         ensures { result ≡ has now self.now kind }
     {
@@ -466,7 +474,7 @@ impl MailboxState {
         }
     }
 
-    /// Whether the thread that enters has something to do.
+    /// Whether the writer thread has something to do.
     fn has_task(&self, now: Duration) -> bool
         ensures { result ≡ has_task now self.now }
     {
@@ -478,7 +486,8 @@ impl MailboxState {
                             || (self.has(Turn::OfChores, now) || self.has(Turn::OfErrand, now))))))
     }
 
-    /// When deadlines are looked at; or, before commands are entered, when they are at the latest.
+    /// Returns when deadlines are next checked; before commands are accepted, when they are at the
+    /// latest.
     fn looks_at(&self) -> Duration
         ensures { result ≡ looks_at self.now }
     {
@@ -491,7 +500,7 @@ impl MailboxState {
         }
     }
 
-    /// When there is something to do by itself.
+    /// Returns when the next timer fires.
     fn next_at(&self, now: Duration) -> Duration
         ensures { result ≡ next_at now self.now }
     {
@@ -504,15 +513,16 @@ impl MailboxState {
         self.looks_at()
     }
 
-    /// Whether the thread that enters may not wait at this moment.
+    /// Whether the writer thread must not wait at this moment.
     fn is_occupied(&self, now: Duration) -> bool
         ensures { result ≡ is_occupied now self.now }
     {
         self.has_task(now) || self.is_hurried
     }
 
-    /// How long the thread that enters may wait at this moment for something to do: not at all where
-    /// it has a task, or is in a hurry. A chore may come due before: the home is to be swept a quarter of a second later at the latest.
+    /// Returns how long the writer thread may wait at this moment for something to do; `None` if it
+    /// has a task or is in a hurry. A chore may come due before that: the home is to be swept a
+    /// quarter of a second later at the latest.
     pub fn idle_time(&self, now: Duration) -> Option<Duration>
         ensures { IsIdleFor now self.now result }
     {
@@ -523,7 +533,7 @@ impl MailboxState {
         Some(until.saturating_sub(now))
     }
 
-    /// The kind of task that has its turn, of those of which there is a task.
+    /// Returns the kind of task whose turn it is, of the kinds that have a task.
     fn next_kind(&self, now: Duration) -> Option<Turn>
         ensures { IsNextKind self.now.last (has now self.now) result }
     {
@@ -552,7 +562,7 @@ impl MailboxState {
         }
     }
 
-    /// Does what there is of a kind.
+    /// Takes the task of this kind.
     fn take(&mut self, kind: Turn, now: Duration) -> Task
         requires { has now self.old kind ≡ true }
         ensures { Does now kind self.old self.new result }
@@ -592,8 +602,9 @@ impl MailboxState {
         }
     }
 
-    /// What the thread that enters does now: it looks whether the run is over if it is in a hurry, or has
-    /// nothing to do. The kinds of tasks take turns, so that none waits for ever for others where each call takes long.
+    /// Returns what the writer thread does now. It checks whether the run is over if it is in a
+    /// hurry or has nothing to do. The kinds of tasks take turns, so that none waits for ever for
+    /// others whose calls each take long.
     pub fn next_task(&mut self, now: Duration) -> Task
         ensures { IsNextTask now self.old self.new result }
     {
@@ -607,7 +618,7 @@ impl MailboxState {
         }
     }
 
-    /// Has those pause whose pause waits until a list is put.
+    /// Pauses the participants whose pause was put off until a list is put.
     fn pause_busy(&mut self, now: Duration)
         ensures pauses { PausesEach now self.old.since.busy self.old.calls self.new.calls }
         ensures rest { self.new ≡ with_calls self.new.calls self.old }
@@ -615,8 +626,9 @@ impl MailboxState {
         pause_each(&mut self.calls, self.since.busy(), now);
     }
 
-    /// Notes that it is asked now who is to be called. The list that comes of it is out until it is
-    /// put (`put_duties`), which may be later: who is heard meanwhile isn't called by it.
+    /// Records that a list of duties is asked for now. The list is pending until it is put
+    /// (`put_duties`), which may be later: participants that are heard from meanwhile aren't called
+    /// by it.
     pub fn begin_list(&mut self, now: Duration)
         ensures { IsAskedNow now self.old self.new }
     {
@@ -624,7 +636,7 @@ impl MailboxState {
         self.since.begin();
     }
 
-    /// Puts those of a list who weren't heard since it was asked for.
+    /// Puts the duties of a list whose participants weren't heard from since it was asked for.
     fn put_unheard(&mut self, duties: Duties, now: Duration)
         ensures { IsPut duties now self.old self.new }
     {
@@ -637,7 +649,7 @@ impl MailboxState {
         }
     }
 
-    /// Lets a list go, and has it asked for anew at once.
+    /// Discards a list, and asks for a new one at once.
     fn let_go(&mut self, now: Duration)
         ensures { IsLetGo now self.old self.new }
     {
@@ -646,9 +658,10 @@ impl MailboxState {
         self.asking.stir();
     }
 
-    /// Puts those who are to be called, but for those who were heard since that was asked. If memory
-    /// runs out for one of them it is asked again when deadlines are looked at. If it ran out for
-    /// noting one who was heard, the list is let go, and asked for anew.
+    /// Puts a list of duties, without those of participants that were heard from since it was asked
+    /// for. If memory runs out for one of them, a new list is asked for when deadlines are next
+    /// checked. If memory ran out for marking a participant as heard from, the list is discarded,
+    /// and a new one is asked for.
     pub fn put_duties(&mut self, duties: Duties, now: Duration)
         ensures { IsListed duties now self.old self.new }
     {
@@ -659,14 +672,15 @@ impl MailboxState {
         }
     }
 
-    /// Whether there is somebody whose host may be called.
+    /// Whether there is a participant whose host may be called.
     pub fn may_call(&self) -> bool
         ensures { MayTake self.now.calls.now result }
     {
         self.calls.may_take()
     }
 
-    /// The participant that is to be called next, if there is one; none once the program is to end.
+    /// Takes the participant that is to be called next, if there is one; `None` once the program is
+    /// to end.
     pub fn take_due(&mut self) -> Option<Due>
         ensures { IsDueFrom self.old self.new result }
     {
@@ -676,7 +690,7 @@ impl MailboxState {
         self.calls.take()
     }
 
-    /// Puts a letter last. One for which there is no memory is lost, and the participant is called
+    /// Puts a letter last. If memory runs out, the letter is lost, and the participant is called
     /// again.
     pub fn put_letter(&mut self, letter: Letter)
         ensures { IsPutLast letter self.old self.new }
@@ -687,8 +701,8 @@ impl MailboxState {
         }
     }
 
-    /// Puts what came of a call that took so long. A participant that is to be called again pauses
-    /// first. It gives what is to be told of calls in vain.
+    /// Records the result of a call that took this long. A participant that is to be called again
+    /// pauses first. Returns what is to be logged of failing calls.
     pub fn hear(
         &mut self,
         time: Duration,
@@ -711,7 +725,7 @@ impl MailboxState {
         }
     }
 
-    /// Has one pause who is busy, and forgets that another was called.
+    /// Pauses a participant that is busy; forgets that any other was called.
     fn answer(&mut self, who: Called, heard: Heard, now: Duration)
         ensures answered { IsAnswered heard who now self.old.calls self.new.calls }
         ensures rest { self.new ≡ with_calls self.new.calls self.old }
@@ -722,8 +736,8 @@ impl MailboxState {
         }
     }
 
-    /// Notes that what was heard is entered. A participant that is busy is called again after a
-    /// pause; if a list is out, that begins once the list is put.
+    /// Records that an answer is stored. A participant that is busy is called again after a pause;
+    /// if a list is pending, the pause begins once the list is put.
     pub fn note_entered(&mut self, letter: &Letter, now: Duration)
         ensures { IsNoted letter.now now self.old self.new }
     {
@@ -735,14 +749,14 @@ impl MailboxState {
         self.stir(makes_none_due(letter.duty()));
     }
 
-    /// Whether something that another node told waits to be taken.
+    /// Whether a telling of another node waits to be taken.
     pub fn has_telling(&self) -> bool
         ensures { result ≡ is_some self.now.telling }
     {
         self.telling.is_some()
     }
 
-    /// Puts what another node told, unless something waits already. It says whether it did.
+    /// Puts a telling of another node, unless one already waits. Returns whether it did.
     pub fn put_telling(&mut self, telling: Telling) -> bool
         ensures { IsHandedOver telling self.old self.new result }
     {
@@ -753,8 +767,8 @@ impl MailboxState {
         true
     }
 
-    /// Puts what another node told, for which commands are held back at a start. It says whether it
-    /// did: not where nothing of it is new, nor where the program is to end.
+    /// Puts a telling of another node that commands must wait for at a start. Returns whether it
+    /// did: not if nothing in it is new, or if the program is to end.
     pub fn put_awaited(&mut self, telling: Telling) -> bool
         ensures { IsAwaited telling self.old self.new result }
     {

@@ -1,4 +1,4 @@
-// What a node purges by itself, and when: its words.
+// What a node purges by itself, and when: the types.
 ghost use Rattle.std.specs.Prelude.{◌≡◌};
 ghost use Rattle.lra_id.specs.Ids.{same_id};
 ghost use Rattle.lra_mailbox.specs.Sweeps.{freed, hastened, is_due, is_ripe, is_tried, newcomer, next_pause, purges, put_off_if, seen_as, time_of, unfound, waiting};
@@ -8,58 +8,60 @@ use lra_id::{LraId, LraStatus};
 use std::marker::Model;
 use std::time::Duration;
 
-/// The first pause before a purge that was refused is tried again. It doubles each time.
+/// The first pause before a refused purge is tried again. The pause doubles each time.
 const FIRST_PAUSE_MS: u64 = 1_000;
 
-/// The longest.
+/// The longest pause.
 const LAST_PAUSE_MS: u64 = 60_000;
 
-/// How long roots are kept from when they were first seen to show what they show, in milliseconds; for ever, if nothing is said.
+/// How long roots are kept, counted from when they were first seen to show what they show, in
+/// milliseconds; for ever, if no time is given.
 #[derive(Clone, Copy)]
 pub struct Keep {
-    /// Those that are closed or cancelled.
+    /// Roots that are closed or cancelled.
     pub ended: Option<u64>,
-    /// Those that failed to close or to cancel.
+    /// Roots that failed to close or to cancel.
     pub failed: Option<u64>,
 }
 
-/// What is to be done next to sweep a home.
+/// The next step in sweeping a home.
 #[derive(Drop)]
 pub enum Chore {
     /// List the LRAs beyond this one.
     List(Option<LraId>),
-    /// Purge this one, if it still shows what it showed.
+    /// Purge this root, if it still shows what it showed.
     Purge(Ripe),
 }
 
 /// How full a home is.
 #[derive(Clone, Copy)]
 pub struct Fill {
-    /// How many LRAs of it the last look found.
+    /// How many LRAs of the home the last look found.
     pub taken: u64,
-    /// Whether one couldn't be begun for that since this was last asked.
+    /// Whether an LRA couldn't be begun, because the home was full, since this was last asked.
     pub is_refused: bool,
 }
 
-/// What comes of a purge.
+/// The result of a purge.
 #[derive(Clone, Copy, PartialEq, Eq)]
 pub enum Purged {
     /// It is purged.
     Gone,
-    /// It wasn't held any more.
+    /// It was no longer held.
     Missing,
-    /// It is nested in another, and goes with that.
+    /// It is nested in another LRA, and is purged with that.
     Nested,
-    /// A participant of this LRA is to be told something before.
+    /// A participant of this LRA must be notified first.
     Waits(LraId),
-    /// It shows something else by now.
+    /// By now it shows something else.
     Changed,
     /// It is to be tried again later.
     Later,
 }
 
 impl Keep {
-    /// How long one is kept that shows this, in milliseconds, if it is ever to be purged.
+    /// Returns how long a root that shows this is kept, in milliseconds, if it is ever to be
+    /// purged.
     pub(crate) fn time_of(&self, seen: LraStatus) -> Option<u64>
         ensures { result ≡ time_of self.now seen }
     {
@@ -78,7 +80,7 @@ impl Keep {
     }
 }
 
-/// How long a purge waits that was refused, after a pause of so many milliseconds.
+/// Returns how long a refused purge waits, after a pause of this many milliseconds.
 fn next_pause(pause_ms: u64) -> u64
     ensures { result ≡ next_pause pause_ms }
 {
@@ -95,13 +97,13 @@ pub(crate) struct EndedRoot {
     /// What its tree showed at the last look, and since when.
     seen: LraStatus,
     since: Duration,
-    /// Before this moment no purge is tried; never, where it is nested in another.
+    /// Before this moment no purge is tried. `None` means never: the LRA is nested in another.
     tries_at: Option<Duration>,
     /// How long it paused after the last purge that was refused.
     pause_ms: u64,
-    /// The LRA of which a participant is to be told something before.
+    /// The LRA of which a participant must be notified first.
     waits_for: Option<LraId>,
-    /// Whether the look that goes on, or the last one, has found it.
+    /// Whether the current or the last look has found it.
     is_found: bool,
 }
 
@@ -124,7 +126,7 @@ impl Model for EndedRoot {
 }
 
 impl EndedRoot {
-    /// One whose tree was seen to show this for the first time.
+    /// Makes the root whose tree was seen to show this for the first time.
     pub(crate) fn new(id: LraId, seen: LraStatus, now: Duration) -> EndedRoot
         ensures { result ≡ newcomer id seen now }
     {
@@ -139,35 +141,36 @@ impl EndedRoot {
         }
     }
 
-    /// The root, as one that was kept long enough.
+    /// Returns the root as one that was kept long enough.
     pub(crate) fn as_ripe(&self) -> Ripe
         ensures { result ≡ record { root = self.now.id; seen = self.now.seen } }
     {
         Ripe::new(self.id, self.seen)
     }
 
-    /// Whether it is this one.
+    /// Whether it is this LRA.
     pub(crate) fn is(&self, id: LraId) -> bool
         ensures { result ≡ same_id self.now.id id }
     {
         self.id == id
     }
 
-    /// Whether it was found.
+    /// Whether the look found it.
     pub(crate) fn is_found(&self) -> bool
         ensures { result ≡ self.now.is_found }
     {
         self.is_found
     }
 
-    /// Notes that a look begins, which hasn't found it yet.
+    /// Records that a look begins, which hasn't found it yet.
     pub(crate) fn unfind(&mut self)
         ensures { self.new ≡ unfound self.old }
     {
         self.is_found = false;
     }
 
-    /// Notes what the tree of an LRA shows at this moment, if it is this one. Its time begins anew if it showed something else before.
+    /// Records what the tree of an LRA shows at this moment, if it is this root's. Its time begins
+    /// anew if the tree showed something else before.
     pub(crate) fn see(&mut self, id: LraId, seen: LraStatus, now: Duration)
         ensures { self.new ≡ seen_as id seen now self.old }
     {
@@ -185,7 +188,8 @@ impl EndedRoot {
         self.waits_for = None;
     }
 
-    /// Has it wait, longer than the last time, or until a participant of an LRA was told.
+    /// Puts the purge off, for longer than the last time, or until a participant of an LRA was
+    /// notified.
     fn wait_from(&mut self, now: Duration, waits_for: Option<LraId>)
         ensures { self.new ≡ waiting now waits_for self.old }
     {
@@ -194,7 +198,7 @@ impl EndedRoot {
         self.waits_for = waits_for;
     }
 
-    /// Notes what came of a purge that was refused, if it was of this one.
+    /// Records the result of a refused purge, if it was of this root.
     pub(crate) fn put_off(&mut self, id: LraId, purged: &Purged, now: Duration)
         ensures { self.new ≡ put_off_if id purged.now now self.old }
     {
@@ -210,7 +214,7 @@ impl EndedRoot {
         }
     }
 
-    /// Has it tried at once, if it waits for a participant of this LRA.
+    /// Makes the purge be tried at once, if it waits for a participant of this LRA.
     pub(crate) fn free(&mut self, id: LraId)
         ensures { self.new ≡ freed id self.old }
     {
@@ -222,7 +226,7 @@ impl EndedRoot {
         }
     }
 
-    /// Has it tried within a second, if it waits for a participant of any LRA.
+    /// Makes the purge be tried within a second, if it waits for a participant of any LRA.
     pub(crate) fn hasten(&mut self, now: Duration)
         ensures { self.new ≡ hastened now self.old }
     {
@@ -238,7 +242,7 @@ impl EndedRoot {
         }
     }
 
-    /// Whether it was kept as long as is said of those that show what it does.
+    /// Whether it was kept for as long as roots that show the same are to be.
     fn is_ripe(&self, keep: &Keep, now: Duration) -> bool
         ensures { result ≡ is_ripe keep.now now self.now }
     {

@@ -1,5 +1,5 @@
-// Which roots of a node's home have ended, and are to be purged with their trees; and how full the home is. It outlives the runs of the
-// node; a start begins anew.
+// Which roots of a node's home have ended and are to be purged with their trees, and how full the
+// home is. This outlives the runs of the node; a start begins anew.
 ghost use Rattle.std.specs.Prelude.{◌≡◌, ◌++◌, ◌∷◌, [], MatchBool, None, false, filter, map, true};
 ghost use Rattle.std.specs.List.{list_any};
 ghost use Rattle.std.specs.Option.{option_map};
@@ -21,7 +21,7 @@ use std::alloc::Global;
 use std::marker::Model;
 use std::time::Duration;
 
-/// Notes what the tree of an LRA shows, which may be one of these.
+/// Records what the tree of an LRA shows, which may be one of these.
 fn see_each(ended: &mut [EndedRoot], id: LraId, seen: LraStatus, now: Duration)
     ensures { ended.new ≡ map (seen_as id seen now) ended.old }
 {
@@ -30,7 +30,7 @@ fn see_each(ended: &mut [EndedRoot], id: LraId, seen: LraStatus, now: Duration)
     }
 }
 
-/// Notes that a look begins, which has found none of these yet.
+/// Records that a look begins, which has found none of these yet.
 fn unfind_each(ended: &mut [EndedRoot])
     ensures { ended.new ≡ map unfound ended.old }
 {
@@ -39,7 +39,7 @@ fn unfind_each(ended: &mut [EndedRoot])
     }
 }
 
-/// Notes what came of a purge that was refused.
+/// Records the result of a refused purge.
 fn put_off_each(ended: &mut [EndedRoot], id: LraId, purged: &Purged, now: Duration)
     ensures { ended.new ≡ map (put_off_if id purged.now now) ended.old }
 {
@@ -48,7 +48,7 @@ fn put_off_each(ended: &mut [EndedRoot], id: LraId, purged: &Purged, now: Durati
     }
 }
 
-/// Has those tried at once that waited for a participant of this LRA.
+/// Makes the roots that waited for a participant of this LRA be tried at once.
 fn free_each(ended: &mut [EndedRoot], id: LraId)
     ensures { ended.new ≡ map (freed id) ended.old }
 {
@@ -57,7 +57,7 @@ fn free_each(ended: &mut [EndedRoot], id: LraId)
     }
 }
 
-/// Has those tried within a second that wait for a participant of any LRA.
+/// Makes the roots that wait for a participant of any LRA be tried within a second.
 fn hasten_each(ended: &mut [EndedRoot], now: Duration)
     ensures { ended.new ≡ map (hastened now) ended.old }
 {
@@ -73,21 +73,21 @@ fn has(ended: &[EndedRoot], id: LraId) -> bool
     ended.iter().any(|root| root.is(id))
 }
 
-/// Forgets one.
+/// Forgets an LRA.
 fn forget(ended: &mut Vec<EndedRoot>, id: LraId)
     ensures { ended.new.items ≡ without id ended.old.items }
 {
     ended.retain(|root| !root.is(id));
 }
 
-/// Forgets those that weren't found.
+/// Forgets the roots that the look didn't find.
 fn forget_missing(ended: &mut Vec<EndedRoot>)
     ensures { ended.new.items ≡ filter is_found ended.old.items }
 {
     ended.retain(|root| root.is_found());
 }
 
-/// Adds one that has ended, if there is room for it. It says whether there was.
+/// Adds a root that has ended. Returns false if there is no room for it.
 fn add(ended: &mut Vec<EndedRoot>, id: LraId, seen: LraStatus, now: Duration) -> bool
     ensures { MatchBool result
         (ended.new.items ≡ ended.old.items ++ newcomer id seen now ∷ [])
@@ -99,7 +99,7 @@ fn add(ended: &mut Vec<EndedRoot>, id: LraId, seen: LraStatus, now: Duration) ->
     ended.push(EndedRoot::new(id, seen, now)).is_ok()
 }
 
-/// The first that is to be purged at this moment.
+/// Returns the first root that is to be purged at this moment.
 fn due(ended: &[EndedRoot], keep: &Keep, now: Duration) -> Option<Ripe>
     ensures { result ≡ option_map kept_of (first_due keep.now now ended.now) }
 {
@@ -111,17 +111,18 @@ fn due(ended: &[EndedRoot], keep: &Keep, now: Duration) -> Option<Ripe>
     None
 }
 
-/// Has roots purged a while after they were first seen to have ended, or never; and knows how full the home is, where that is to be known.
+/// Purges roots a while after they were first seen to have ended, or never; and knows how full the
+/// home is, if anybody wants to know.
 #[derive(Drop)]
 pub struct Sweeping {
     me: NodeId,
     keep: Keep,
     ended: Vec<EndedRoot>,
-    /// Beyond which LRA the look goes on; none while there is no look.
+    /// The LRA beyond which the look goes on, or `None` if there is no look.
     beyond: Option<LraId>,
     looks: bool,
     looking: Looking,
-    /// Whether none could be begun, since the home was full, since that was last asked.
+    /// Whether an LRA couldn't be begun, because the home was full, since this was last asked.
     is_full: bool,
     census: Census,
 }
@@ -144,7 +145,9 @@ impl Model for Sweeping {
 }
 
 impl Sweeping {
-    /// Of a node, which keeps its roots so long; and knows how full the home is, or doesn't, and what its LRAs show, or doesn't.
+    /// Makes the sweep of a node that keeps its roots as `keep` says. `counts` says whether it is
+    /// to know how full the home is, and `is_watched` whether it is to know what the home's LRAs
+    /// show.
     pub fn new(alloc: Global, me: NodeId, keep: Keep, counts: bool, is_watched: bool) -> Sweeping
         ensures { result ≡ record { number = me; keep = keep; ended = []; beyond = None; looks = false; looking = record { counts = counts; is_watched = is_watched; is_stirred = true; begun = MANY; has_purged = false; has_missed = false; taken = 0; looks_at = at_once; counts_at = at_once }; is_full = false; counts = none_counted } }
     {
@@ -160,7 +163,7 @@ impl Sweeping {
         }
     }
 
-    /// The LRA before all those of the home in the order of pages, if there can be one.
+    /// Returns the LRA before all those of the home in the order of pages, if there can be one.
     fn before_home(&self) -> Option<LraId>
         ensures { result ≡ before_home self.now.number }
     {
@@ -170,7 +173,7 @@ impl Sweeping {
         LraId::new(home, LAST_NUMBER).ok()
     }
 
-    /// Notes what became of an LRA by a call.
+    /// Records what a call changed of an LRA.
     pub(crate) fn note_call(&mut self, became: Became)
         ensures { self.new ≡ with_became became self.old }
     {
@@ -190,7 +193,7 @@ impl Sweeping {
         self.looking.counts || self.keep.purges()
     }
 
-    /// Whether the home is to be looked through at this moment.
+    /// Whether to look through the home at this moment.
     fn is_to_look(&self, now: Duration) -> bool
         ensures { result ≡ is_to_look now (purges self.now.keep) self.now.looking }
     {
@@ -217,7 +220,8 @@ impl Sweeping {
         self.census.begin();
     }
 
-    /// Ends a look. What it hasn't found is forgotten. Another follows if there was no room for one.
+    /// Ends a look. Roots that it didn't find are forgotten. Another look follows if there was no
+    /// room for a root.
     fn end(&mut self)
         ensures { self.new ≡ looked self.old }
     {
@@ -227,7 +231,8 @@ impl Sweeping {
         forget_missing(&mut self.ended);
     }
 
-    /// The next chore, if there is one: a look that has begun is ended first, and then what is due is purged.
+    /// Returns the next chore, if there is one: a look that has begun is finished first, and then
+    /// roots that are due are purged.
     pub fn next(&mut self, now: Duration) -> Option<Chore>
         ensures { IsNextChore now self.old self.new result }
     {
@@ -257,8 +262,8 @@ impl Sweeping {
         }
     }
 
-    /// Notes what the tree of an LRA shows at this moment. Its root is remembered if those that show
-    /// this are ever purged.
+    /// Records what the tree of an LRA shows at this moment. Its root is remembered if trees that
+    /// show this are ever purged.
     fn note(&mut self, now: Duration, id: LraId, seen: LraStatus)
         ensures { IsNoted now id seen self.old self.new }
     {
@@ -271,8 +276,8 @@ impl Sweeping {
         }
     }
 
-    /// Tells of an LRA on a page: what it shows, and what its tree shows, which is the LRA with all
-    /// that is nested in it.
+    /// Shows the sweep an LRA on a page: what it shows, and what its tree shows, which is the LRA
+    /// with all that is nested in it.
     pub fn see(&mut self, now: Duration, id: LraId, shown: LraStatus, seen: LraStatus)
         ensures { IsSeen now id shown seen self.old self.new }
     {
@@ -288,7 +293,7 @@ impl Sweeping {
         }
     }
 
-    /// Tells that the page is over, and whether more follow.
+    /// Tells the sweep that the page is over, and whether more pages follow.
     pub fn turn(&mut self, more: bool)
         ensures { self.new ≡ turned more self.old }
     {
@@ -297,7 +302,7 @@ impl Sweeping {
         }
     }
 
-    /// Tells what came of a purge.
+    /// Tells the sweep the result of a purge.
     pub fn purged(&mut self, now: Duration, id: LraId, purged: Purged)
         ensures { self.new ≡ left_by purged id now self.old }
     {
@@ -311,29 +316,32 @@ impl Sweeping {
         }
     }
 
-    /// Tells that a participant of an LRA was told what it was to be told: roots that waited for that are tried at once.
+    /// Tells the sweep that a participant of an LRA was notified as it was to be: roots that waited
+    /// for that are tried at once.
     pub(crate) fn free(&mut self, id: LraId)
         ensures { self.new ≡ with_ended (map (freed id) self.old.ended) self.old }
     {
         free_each(&mut self.ended, id);
     }
 
-    /// Tells that another node told something: roots that wait for a participant of any LRA are tried
-    /// within a second.
+    /// Tells the sweep that another node sent something: roots that wait for a participant of any
+    /// LRA are tried within a second.
     pub(crate) fn hasten(&mut self, now: Duration)
         ensures { self.new ≡ with_ended (map (hastened now) self.old.ended) self.old }
     {
         hasten_each(&mut self.ended, now);
     }
 
-    /// How many LRAs of the home showed each status at the last look, in the order of their ranks.
+    /// Returns how many LRAs of the home showed each status at the last look, in the order of their
+    /// ranks.
     pub fn held(&self) -> [u64; STATUSES]
         ensures { result ≡ self.now.counts.held }
     {
         self.census.held()
     }
 
-    /// How full the home is, and whether none could be begun for that since this was last asked.
+    /// Returns how full the home is, and whether an LRA couldn't be begun because of that since
+    /// this was last asked.
     pub fn fill(&mut self) -> Fill
         ensures fill { result ≡ fill_of self.old }
         ensures told { self.new ≡ with_full false self.old }

@@ -1,43 +1,43 @@
-// What the thread that enters does next.
+// What the writer thread does next.
 ghost use Rattle.std.specs.Prelude.{◌≡◌};
 ghost use Rattle.lra_mailbox.specs.Mail.{is_any, is_wanted};
 
 use crate::sweep::Chore;
 use lra_heard::{Letter, Telling};
 
-/// What the thread that enters does next.
+/// What the writer thread does next.
 #[derive(Drop)]
 pub enum Task {
-    /// Enter what was heard.
+    /// Record a participant's answer.
     Enter(Letter),
-    /// Take what another node told.
+    /// Take what another node sent.
     Take(Telling),
     /// Ask which participants are to be called.
     Ask,
     /// Look for a deadline that has passed.
     Tick,
-    /// Ask how many facts the node has, to tell the others.
+    /// Ask how many facts the node has, so that the other nodes learn it.
     Count,
     /// Do a chore of a sweep.
     Sweep(Chore),
     /// Make the call that operators want, which is of this kind.
     Errand(Wanted),
-    /// Look whether the run is over.
+    /// Check whether the run is over.
     Rest,
 }
 
-/// What operators want of the thread that enters.
+/// What operators want from the writer thread.
 #[derive(Clone, Copy)]
 pub enum Wanted {
     Nothing,
     /// A call that stores nothing.
     Question,
-    /// One that does.
+    /// A call that stores something.
     Command,
 }
 
 impl Wanted {
-    /// Whether it is to be made now, where commands are entered or aren't.
+    /// Whether it is to be made now, if the node may or may not store facts of its own.
     pub(crate) fn is_there(self, may_enter: bool) -> bool
         ensures { result ≡ is_wanted may_enter self }
     {

@@ -1,8 +1,8 @@
-// Which kind of task has its turn.
+// Decides which kind of task has its turn.
 ghost use Rattle.std.specs.Prelude.{◌≡◌};
 ghost use Rattle.lra_mailbox.specs.Tasks.{after};
 
-/// Which kind of task was looked for last.
+/// The kinds of tasks, by which the last turn is remembered.
 #[derive(Clone, Copy, PartialEq, Eq)]
 pub(crate) enum Turn {
     OfDeadlines,
@@ -15,7 +15,7 @@ pub(crate) enum Turn {
 }
 
 impl Turn {
-    /// The kind whose turn is after this one's.
+    /// Returns the kind whose turn comes after this one's.
     pub(crate) fn next(self) -> Turn
         ensures { result ≡ after self }
     {
