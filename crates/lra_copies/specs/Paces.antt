@@ -1,4 +1,4 @@
--- When pulls that are held are served.
+-- When held pulls are served.
 use Rattle.std.specs.Prelude.{◌+◌, ◌-◌, ◌*◌, ◌/◌, ◌≢◌, ◌≤◌, ℕ, Bool, List, Option, None, Some, IsTrue, if◌then◌else◌, false, min, not, replicate, slice_index_or, slice_set}
 use Rattle.std.specs.Duration.{as_nanos}
 use Rattle.std.specs.declared.time.Duration.{Duration}
@@ -6,19 +6,19 @@ use Rattle.lra_copies.specs.Moments.{is_over, is_over_since}
 use Rattle.lra_copies.specs.declared.standing.Verdict.{Verdict}
 use Rattle.lra_copies.specs.declared.standing.Verdict.TheVariants.{Later, Serve, Soon}
 
--- When each node last asked, and when it last got a frame; when a run ended that none has followed yet; and how long a change from one
--- run to the next takes, in nanoseconds
+-- When each node last asked, and when it last got a frame; when a run ended that none has followed
+-- yet; and how long a change from one run to the next takes, in nanoseconds
 pub record Pace : Type 0 where
   pub asked : List (Option Duration)
   pub given : List (Option Duration)
   pub ended : Option Duration
   pub change : Option ℕ
 
--- before anybody asked
+-- before any node asked
 abbrev pub at_rest : Pace
 at_rest = record { asked = replicate 8 None; given = replicate 8 None; ended = None; change = None }
 
--- when that was of a node, if ever
+-- the moment recorded for a node, if any
 abbrev pub moment_of : List (Option Duration) → (node : ℕ) → Option Duration
 moment_of moments node = slice_index_or moments (node - 1) None
 
@@ -28,19 +28,19 @@ asked_at other now p = record p { asked = slice_set p.asked (other - 1) (Some no
 abbrev pub given_at : (other : ℕ) → (now : Duration) → Pace → Pace
 given_at other now p = record p { given = slice_set p.given (other - 1) (Some now) }
 
--- whether one asked within the last second
+-- whether a node asked within the last second
 abbrev pub listens : (asked : Option Duration) → (now : Duration) → Bool
 listens (Some at) now = not (is_over 1_000_000_000 at now)
 listens None now = false
 
--- each other node of so many did
+-- each other node of a group of this size did
 abbrev pub DoAllListen : (me nodes : ℕ) → (now : Duration) → Pace → Type 0
 DoAllListen me nodes now p = (node : ℕ) → 1 ≤ node → node ≤ nodes → node ≢ me → IsTrue (listens (moment_of p.asked node) now)
 
 abbrev pub with_end : (now : Duration) → Pace → Pace
 with_end now p = record p { ended = Some now }
 
--- the mean once a change took so long: an eighth of it is the newest
+-- the mean after a change that took this long: the newest counts for an eighth
 abbrev pub mean_with : (mean : Option ℕ) → (nanos : ℕ) → ℕ
 mean_with (Some mean) nanos = (mean - mean / 8) + nanos / 8
 mean_with None nanos = nanos
@@ -49,7 +49,7 @@ mean_with None nanos = nanos
 abbrev pub nanos_between : (since now : Duration) → ℕ
 nanos_between since now = min (as_nanos now - as_nanos since) 18_446_744_073_709_551_615
 
--- once the next run has begun
+-- after the next run has begun
 abbrev pub with_change : (ended : Option Duration) → (now : Duration) → Pace → Pace
 with_change (Some at) now p = record p { ended = None; change = Some (mean_with p.change (nanos_between at now)) }
 with_change None now p = p
@@ -61,11 +61,13 @@ abbrev pub change_of : Option ℕ → ℕ
 change_of (Some nanos) = nanos
 change_of None = 0
 
--- how many nanoseconds it is at least from one frame to the next that one node gets: a change for each other node, and 50 ms at most
+-- the least number of nanoseconds between two frames for the same node: a change of runs for each
+-- other node, and at most 50 ms
 abbrev pub gap : (nodes : ℕ) → Pace → ℕ
 gap nodes p = min ((nodes - 1) * change_of p.change) 50_000_000
 
--- how long a pull is held at most without news: half a second where its asker lacks facts of others, and four where it lacks nothing
+-- how long a pull without news is held at most: half a second if its asker lacks facts of others,
+-- and four if it lacks nothing
 abbrev pub longest : (lacks_others : Bool) → ℕ
 longest lacks_others = if lacks_others then 500_000_000 else 4_000_000_000
 

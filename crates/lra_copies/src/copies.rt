@@ -1,4 +1,4 @@
-// How far a node's facts have spread.
+// Tracks how far a node's facts have spread.
 ghost use Rattle.std.specs.Prelude.{◌≡◌, ◌≤◌, [], false, length, replicate};
 ghost use Rattle.lra_id.specs.Fronts.{count};
 ghost use Rattle.lra_id.specs.declared.TheConstants.{MAX_NODES};
@@ -12,24 +12,25 @@ use lra_id::NodeId;
 use std::marker::Model;
 use std::time::Duration;
 
-/// What other nodes have of this node's facts, and for what one waits who shows them.
+/// What other nodes have of this node's facts, and the tickets that answers showing these facts
+/// wait for.
 #[derive(Drop)]
 pub struct Copies {
     others: Others,
-    /// For how long one waits.
+    /// How long an answer waits.
     patience: Duration,
     /// How many calls that may store a fact are under way.
     entering: u64,
-    /// The last ticket that was drawn; 0 for none.
+    /// The last ticket that was drawn; 0 if none was.
     drawn: u64,
-    /// The last for which somebody may wait.
+    /// The last ticket for which an answer may wait.
     stored: u64,
-    /// The greatest of a frame that was given.
+    /// The greatest ticket of a frame that was given.
     marked: u64,
-    /// How many facts this node is known to have of its own.
+    /// How many facts of its own this node is known to have.
     counted: u64,
     marks: Marks,
-    /// Enough others have each fact of a ticket up to this one.
+    /// Enough other nodes have each fact with a ticket up to this one.
     covered: u64,
     is_short: bool,
     has_strange: bool,
@@ -56,8 +57,8 @@ impl Model for Copies {
 }
 
 impl Copies {
-    /// Of a node of so many, 1 to 8, which wants so many copies of each fact at other nodes (0:
-    /// none), and waits so long for them.
+    /// Makes the state of a node in a group of `nodes` nodes, 1 to 8. It wants each fact to be
+    /// copied to `wanted` other nodes (0: none), and waits for that as long as `patience`.
     pub fn new(me: NodeId, nodes: u8, wanted: u8, patience: Duration) -> Copies
         requires { (1 ≤ nodes) × (nodes ≤ MAX_NODES) }
         ensures { result ≡ record {
@@ -105,14 +106,15 @@ impl Copies {
         self.stored
     }
 
-    /// Notes that a call begins that may store a fact of this node.
+    /// Records that a call begins that may store a fact of this node.
     pub fn begin(&mut self)
         ensures { self.new ≡ begun self.old }
     {
         self.entering = self.entering.saturating_add(1);
     }
 
-    /// Notes that it is over, and draws the ticket of its fact; 0 where none was stored.
+    /// Records that such a call is over, and draws the ticket of its fact; returns 0 if none was
+    /// stored.
     pub fn end(&mut self, is_stored: bool) -> u64
         ensures ended { self.new ≡ ended is_stored self.old }
         ensures ticket { result ≡ fact_ticket is_stored self.old }
@@ -124,7 +126,8 @@ impl Copies {
         self.draw_to_wait()
     }
 
-    /// Notes that a frame is asked for, and draws a ticket: the frame has each fact of a lesser one.
+    /// Records that a frame is asked for, and draws its ticket: the frame has each fact with a
+    /// lower one.
     pub fn ask(&mut self) -> u64
         ensures drawn { self.new ≡ drawn self.old }
         ensures ticket { result ≡ next_ticket self.old }
@@ -132,9 +135,9 @@ impl Copies {
         self.draw()
     }
 
-    /// Notes that a frame was given which was asked for with this ticket, and counts so many facts of
-    /// this node. Of those that too few others have it remembers `MAX_MARKS`: one more replaces the
-    /// last.
+    /// Records that a frame was given that was asked for with this ticket and counts this many
+    /// facts of this node. `MAX_MARKS` frames that too few other nodes have are remembered: one
+    /// more replaces the last.
     pub fn give(&mut self, ticket: u64, count: u64, now: Duration)
         ensures { self.new ≡ given (record { ticket = ticket; count = count; at = now }) self.old }
     {
@@ -146,14 +149,14 @@ impl Copies {
         }
     }
 
-    /// Notes how many facts of its own this node has.
+    /// Records how many facts of its own this node has.
     pub fn note_count(&mut self, count: u64)
         ensures { self.new ≡ counted count self.old }
     {
         self.counted = self.counted.max(count);
     }
 
-    /// Lets those frames go that enough others have.
+    /// Forgets the frames that enough other nodes have.
     fn settle(&mut self, now: Duration)
         ensures { self.new ≡ settled now self.old }
     {
@@ -164,7 +167,7 @@ impl Copies {
         self.marks = uncopied(&self.marks, &self.others);
     }
 
-    /// Notes how many facts of this node another acknowledges.
+    /// Records how many facts of this node another node acknowledges.
     fn acknowledge(&mut self, other: NodeId, count: u64)
         requires { other ≤ length self.old.others.told }
         ensures { self.new ≡ told_by other count self.old }
@@ -175,8 +178,8 @@ impl Copies {
         self.has_strange = self.has_strange || is_strange;
     }
 
-    /// Notes that another node tells how many facts of this node it has stored. More than this node
-    /// knows of acknowledges nothing.
+    /// Records that another node reports how many facts of this node it has stored. A number
+    /// greater than this node knows of acknowledges nothing.
     pub fn hear(&mut self, other: NodeId, count: u64, now: Duration)
         ensures { self.new ≡ heard other count now self.old }
     {
@@ -186,8 +189,9 @@ impl Copies {
         }
     }
 
-    /// The ticket for which one waits who may have seen what is stored now; 0 where there is nothing
-    /// to wait for. While a call is under way a new one is drawn.
+    /// Returns the ticket that must be covered before an answer is sent that may show what is
+    /// stored now; 0 if there is nothing to wait for. While a call is under way, a new ticket is
+    /// drawn.
     pub fn target(&mut self) -> u64
         ensures looked { self.new ≡ looked self.old }
         ensures ticket { result ≡ target (looked self.old) }
@@ -202,52 +206,52 @@ impl Copies {
         }
     }
 
-    /// Whether as many others as are wanted have each fact of a ticket up to this one.
+    /// Whether as many other nodes as are wanted have each fact with a ticket up to this one.
     pub fn is_covered(&self, ticket: u64) -> bool
         ensures { result ≡ is_covered ticket self.now }
     {
         self.others.wanted == 0 || ticket <= self.covered
     }
 
-    /// The ticket up to which as many others as are wanted have each fact.
+    /// Returns the ticket up to which as many other nodes as are wanted have each fact.
     pub fn covered(&self) -> u64
         ensures { result ≡ self.now.covered }
     {
         self.covered
     }
 
-    /// Whether there is something of this node's own for one that has so many facts of it.
+    /// Whether there is news of this node's own for a node that has this many facts of it.
     pub fn has_news(&self, count: u64) -> bool
         ensures { result ≡ has_news count self.now }
     {
         self.stored > self.marked || self.counted > count
     }
 
-    /// How many facts of this node another told that it has.
+    /// Returns how many facts of this node another node reported to have.
     pub fn told(&self, other: NodeId) -> u64
         ensures { result ≡ count self.now.others.told other }
     {
         self.others.told.count(other)
     }
 
-    /// Whether others fell behind for longer than the patience, so that nobody waits unless that is
-    /// strict. It is over once enough have a frame within the patience.
+    /// Whether other nodes fell behind for longer than the patience, so that an answer waits only
+    /// if it is strict. This ends once enough nodes have a frame within the patience.
     pub fn is_short(&self) -> bool
         ensures { result ≡ self.now.is_short }
     {
         self.is_short
     }
 
-    /// Whether another told of more facts of this node than this node knew of: its journal is older,
-    /// or there are two processes of its number.
+    /// Whether another node reported more facts of this node than this node knew of: this node's
+    /// journal is older, or there are two processes with its number.
     pub fn has_strange(&self) -> bool
         ensures { result ≡ self.now.has_strange }
     {
         self.has_strange
     }
 
-    /// How one stands that waits for a ticket since a moment. Where that is strict, it waits though
-    /// others fell behind.
+    /// Returns the standing of an answer that has waited for a ticket since a moment. If it is
+    /// strict, it waits even though other nodes fell behind.
     pub fn standing(
         &mut self,
         ticket: u64,

@@ -1,5 +1,6 @@
-// Laws of the definitions: each function does nothing, and its contract is the law. Those over steps, or pulls, are of all that may happen
-// to a node since its start, where the last of a list stands first. The others are of one step, from any state.
+// Laws of the definitions: each function does nothing, and its contract is the law. The laws over
+// steps, or over pulls, speak of everything that may happen to a node since its start, with the
+// last event first in a list. The others speak of one step, from any state.
 ghost use Rattle.std.specs.Prelude.{◌≡◌, ◌≢◌, ◌⊎◌, ◌<◌, ◌≤◌, ◌+◌, ◌++◌, ◌∷◌, [], ℕ, All, Bool, IfSome, List, None, Option, Some, false, length, replicate, true};
 ghost use Rattle.std.specs.Duration.{as_nanos};
 ghost use Rattle.std.specs.declared.time.Duration.{Duration as TheDuration};
@@ -19,8 +20,9 @@ ghost use Rattle.lra_copies.specs.declared.standing.Standing.TheVariants.{Late a
 ghost use Rattle.lra_copies.specs.declared.standing.Verdict.TheVariants.{Later as ToLater, Soon as ToSoon};
 ghost use Rattle.lra_copies.specs.declared.waiters.CallsHeld.{CallsHeld as TheCalls};
 
-/// Of two tickets that are drawn the later is greater, unless the earlier is the last that there is. So a fact's ticket is above each that
-/// was drawn before it, and below that of each frame that is asked for behind it.
+/// Of two drawn tickets the later is greater, unless the earlier is the last ticket that there is.
+/// So a fact's ticket is above each that was drawn before it, and below that of each frame that is
+/// asked for after it.
 pub fn a_later_ticket_is_greater()
     ensures { (node : Node) (between earlier : List Step) (one later : Step) →
         0 < drawn_by one (after_all earlier (at_start node)) →
@@ -29,8 +31,10 @@ pub fn a_later_ticket_is_greater()
         drawn_by one (after_all earlier (at_start node)) < drawn_by later (after_all (between ++ one ∷ earlier) (at_start node)) }
 {}
 
-/// What is covered was copied: the covered ticket is none, or that of a frame that was given; and at some moment since, as many others as
-/// are wanted had told of all facts that it counts. A node told of what it told last, and of nothing where that was more than there was.
+/// What is covered was copied. The covered ticket is either 0 or that of a frame that was given,
+/// and at some moment since then as many other nodes as are wanted had reported all facts that the
+/// frame counts. What a node reported is its last report, or nothing if that was more than there
+/// was.
 pub fn what_is_covered_was_copied()
     ensures covered { (node : Node) (steps : List Step) →
         ((after_all steps (at_start node)).covered ≡ 0)
@@ -40,7 +44,7 @@ pub fn what_is_covered_was_copied()
         count (after_all steps (at_start node)).others.told other ≡ last_told other steps (at_start node) }
 {}
 
-/// A fact isn't covered by a frame that was asked for before it was stored.
+/// A fact isn't covered by a frame that was asked for before the fact was stored.
 pub fn what_came_later_is_not_covered()
     ensures { (node : Node) (later between earlier : List Step) → 0 < node.wanted →
         (after_all (later ++ (Ends true ∷ (between ++ (Asks ∷ earlier)))) (at_start node)).covered ≡ drawn_by Asks (after_all earlier (at_start node)) →
@@ -48,13 +52,13 @@ pub fn what_came_later_is_not_covered()
         (after_all (later ++ (Ends true ∷ (between ++ (Asks ∷ earlier)))) (at_start node)) ≡ false }
 {}
 
-/// Sixty-four frames that were given are remembered. Only a further one takes the place of the last.
+/// Sixty-four given frames are remembered. Only one more takes the place of the last.
 pub fn sixty_four_frames_are_remembered()
     ensures { (mark : TheMark) (marks : List TheMark) → length marks < 64 → put mark marks ≡ marks ++ mark ∷ [] }
 {}
 
-/// Who looks waits for each fact that was stored before, unless that is covered; and while more calls have begun than are over, a new ticket
-/// is drawn for what those may have stored.
+/// An answer waits for each fact that was stored before it looked, unless that fact is covered.
+/// While more calls have begun than are over, a new ticket is drawn for what those may have stored.
 pub fn who_looks_waits_for_what_was_stored()
     ensures stored { (node : Node) (later earlier : List Step) →
         (is_covered (drawn_by (Ends true) (after_all earlier (at_start node))) (looked (after_all (later ++ (Ends true ∷ earlier)) (at_start node))) ≡ true)
@@ -63,8 +67,9 @@ pub fn who_looks_waits_for_what_was_stored()
         0 < drawn_by Looks (after_all steps (at_start node)) }
 {}
 
-/// Nobody waits for ever: an answer for no longer than the patience, and so a list of calls unless that is strict; a pull without news for
-/// four seconds at most, and one with news until 50 ms after the last frame that its asker got.
+/// Nothing waits for ever. An answer waits no longer than the patience, and neither does a list of
+/// duties unless it is strict. A pull without news waits at most four seconds, and one with news
+/// until 50 ms after the last frame that its asker got.
 pub fn nobody_waits_for_ever()
     ensures answers { (ticket : ℕ) (since now : TheDuration) (is_strict : Bool) (s : Spread) →
         as_nanos since + as_nanos s.patience ≤ as_nanos now →
@@ -83,8 +88,9 @@ pub fn nobody_waits_for_ever()
         fate_of (Some calls) now false s asks_again ≢ OnHold }
 {}
 
-/// Where that is strict nobody is called before others have what was seen. What was seen then may not be so any more: a list that was
-/// late is too old from then on, and nobody is called by it.
+/// If calls are strict, no participant is called before other nodes have what was seen. What was
+/// seen then may no longer be so: from the moment a list is late it is too old, and no participant
+/// is called by it.
 pub fn nobody_is_called_by_a_list_that_was_late()
     ensures strict { (calls : TheCalls) (now : TheDuration) (s : Spread) (asks_again : Bool) → is_covered calls.ticket s ≡ false →
         (fate_of (Some calls) now true s asks_again ≡ OnHold) ⊎ (fate_of (Some calls) now true s asks_again ≡ Outdated) }
@@ -97,22 +103,23 @@ pub fn nobody_is_called_by_a_list_that_was_late()
         fate_of (Some calls) now is_strict s asks_again ≢ Called again }
 {}
 
-/// Where it was put off to ask who is to be called, since participants waited, that is made up for once those wait no longer: they aren't
-/// called without it.
+/// If asking for a new list was put off because participants waited, it is made up for once they no
+/// longer wait: they aren't called without it.
 pub fn what_was_put_off_is_asked()
     ensures { (now : TheDuration) (is_strict : Bool) (s : Spread) (w : Wait) →
         fate_of (with_question w).calls now is_strict s (with_question w).asks_again ≢ Called false }
 {}
 
-/// What was told and isn't taken yet is asked for once more soon: the next pull waits neither at the other node nor for news of it.
+/// What was received and isn't taken yet is soon asked for once more: the next pull waits neither
+/// at the other node nor for its news.
 pub fn what_is_untaken_is_asked_for_soon()
     ensures pause { (is_held asks_waiting : Bool) (p : ThePull) → (behind Untaken is_held asks_waiting p).pause_ms ≤ 50 }
     ensures wait { (is_held asks_waiting : Bool) (p : ThePull) → (behind Untaken is_held asks_waiting p).wait_ms ≡ 0 }
     ensures waits { (is_held asks_waiting : Bool) (p : ThePull) → (behind Untaken is_held asks_waiting p).waits ≡ false }
 {}
 
-/// What the journal can't store isn't sent again and again: the next pull pauses for a round, and each round is twice as long as the one
-/// before, up to five seconds.
+/// What the journal can't store isn't sent again and again: the next pull pauses for a round, and
+/// each round is twice as long as the one before, up to five seconds.
 pub fn what_can_not_be_stored_is_asked_for_after_a_round()
     ensures { (is_held asks_waiting : Bool) (p : ThePull) →
         ((behind Kept is_held asks_waiting p).pause_ms ≡ round_after Kept p.round_ms)
@@ -120,16 +127,19 @@ pub fn what_can_not_be_stored_is_asked_for_after_a_round()
         × ((behind Kept is_held asks_waiting p).waits ≡ false) }
 {}
 
-/// A node of an older version holds no pull, asks by none that waits, and isn't asked in a rush: behind 33 pulls in a row that came to
-/// nothing at once, if none before them was held, the next one waits five seconds for news of it.
+/// A node of an older version, which holds no pull and sends none that waits, isn't asked in a
+/// rush. After 33 pulls in a row that brought nothing and returned at once, if none before them was
+/// held, the next one waits five seconds for news of that node.
 pub fn one_of_an_older_version_is_not_asked_in_a_rush()
     ensures { (number : ℕ) (earlier : List Came) → 33 ≤ number → All HoldsNone earlier →
         (behind_all (replicate number nothing_at_once ++ earlier)).wait_ms ≡ 5_000 }
 {}
 
-/// Each node is asked again: a pause is five seconds at most, and so is the wait for news. One that holds pulls is asked soon: at once
-/// behind a pull that brought something or was held, and after 50 ms at most behind any other that came to nothing. So is one that asks
-/// by pulls that wait, though it never held any: its answers may wait for what the next pull tells it.
+/// Each node is asked again: a pause takes at most five seconds, and so does the wait for news. A
+/// node that holds pulls is asked soon: at once after a pull that brought something or was held,
+/// and after at most 50 ms after any other that brought nothing. The same holds for a node that
+/// sends pulls that wait, even if it never held any: its answers may wait for what the next pull
+/// reports to it.
 pub fn each_node_is_asked_again()
     ensures again { (pulled : ThePulled) (is_held asks_waiting : Bool) (p : ThePull) →
         ((behind pulled is_held asks_waiting p).pause_ms ≤ 5_000) × ((behind pulled is_held asks_waiting p).wait_ms ≤ 5_000) }
@@ -144,8 +154,8 @@ pub fn each_node_is_asked_again()
         ((behind Nothing is_held true p).pause_ms ≤ 50) × ((behind Nothing is_held true p).wait_ms ≡ 0) × ((behind Nothing is_held true p).holds ≡ true) }
 {}
 
-/// What is wrong with another node is told once nothing can be had of it for five seconds, and then not again however many pulls fail, until
-/// it answers: that is told too.
+/// Trouble with another node is logged once nothing was received from it for five seconds, and then
+/// not again, however many pulls fail, until it answers: that is logged too.
 pub fn what_is_wrong_is_told_once()
     ensures soon { (began now : TheDuration) (t : Trouble) → t.is_told ≡ false →
         as_nanos (since_of t.since began) + 5_000_000_000 ≤ as_nanos now → is_due began now t ≡ true }
@@ -155,9 +165,10 @@ pub fn what_is_wrong_is_told_once()
         (after_failures between (with_failure first.began first.now t)).is_told ≡ true }
 {}
 
-/// What these laws speak of happens. Node 1 of three stores a fact, gives a frame that was asked for behind it, and node 2 tells that it
-/// has it; and so does it where the frame was asked for before the fact was stored. Who waits a second for it waits, and is late then; and
-/// who had a frame had it at that moment.
+/// What these laws speak of does happen. Node 1 of three stores a fact, gives a frame that was
+/// asked for after it, and node 2 reports that it has it. The same with a frame that was asked for
+/// before the fact was stored. An answer that waits a second for it waits, and is late then. A node
+/// that got a frame got it at that moment.
 pub fn these_happen()
     ensures drawn { (patience : TheDuration) →
         (drawn_by (Ends true) (after_all (Begins ∷ []) (at_start (first_of_three patience))) ≡ 1)

@@ -1,5 +1,5 @@
-//! What other nodes have of this node's facts, how long a pull or an answer waits for that, and how
-//! the next pull goes. It knows no thread, no lock and no clock: each moment is handed in.
+//! What other nodes have of this node's facts, how long a pull or an answer waits for that, and
+//! when the next pull is made. It knows no thread, no lock and no clock: each moment is passed in.
 #![tactic(auto)]
 
 mod copies;

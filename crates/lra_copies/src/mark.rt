@@ -1,4 +1,4 @@
-// Frames that were given, and that too few others are known to have.
+// Remembers the given frames that too few other nodes are known to have.
 ghost use Rattle.std.specs.Prelude.{◌≡◌, ◌&&◌, filter, max};
 ghost use Rattle.std.specs.List.{list_any};
 ghost use Rattle.lra_copies.specs.Spreads.{copied_tickets, greatest, is_copied, is_in_time, is_uncopied, put};
@@ -8,22 +8,22 @@ use crate::others::Others;
 use arrayvec::ArrayVec;
 use std::time::Duration;
 
-/// How many are remembered at most.
+/// The most frames that are remembered.
 pub const MAX_MARKS: usize = 64;
 
-/// A frame that was given: it has each fact of a ticket up to this one, and counts so many facts of
-/// this node.
+/// A frame that was given: it has each fact with a ticket up to this one, and counts this many
+/// facts of this node.
 #[derive(Clone, Copy, Default)]
 pub(crate) struct Mark {
     pub(crate) ticket: u64,
     pub(crate) count: u64,
-    /// When it was given.
+    /// When the frame was given.
     pub(crate) at: Duration,
 }
 
 pub(crate) type Marks = ArrayVec<Mark, MAX_MARKS>;
 
-/// Puts one last. Where there is no room it replaces the last.
+/// Puts a mark last. If there is no room, it replaces the last.
 pub(crate) fn put(marks: &mut Marks, mark: Mark)
     ensures { marks.new.items ≡ put mark marks.old.items }
 {
@@ -31,7 +31,7 @@ pub(crate) fn put(marks: &mut Marks, mark: Mark)
     marks.push(mark);
 }
 
-/// Those that too few others have.
+/// Returns the marks that too few other nodes have.
 pub(crate) fn uncopied(marks: &Marks, others: &Others) -> Marks
     ensures { result.items ≡ filter (is_uncopied others.now) marks.now.items }
 {
@@ -44,7 +44,7 @@ pub(crate) fn uncopied(marks: &Marks, others: &Others) -> Marks
     left
 }
 
-/// The greatest of a ticket and those of the marks that enough others have.
+/// Returns the greatest of a ticket and of the tickets of the marks that enough other nodes have.
 pub(crate) fn covered_by(marks: &[Mark], others: &Others, covered: u64) -> u64
     ensures { result ≡ max covered (greatest (copied_tickets others.now marks.now)) }
 {
@@ -57,7 +57,7 @@ pub(crate) fn covered_by(marks: &[Mark], others: &Others, covered: u64) -> u64
     most
 }
 
-/// Whether enough others have one that was given within the patience.
+/// Whether enough other nodes have a frame that was given within the patience.
 pub(crate) fn is_any_in_time(
     marks: &[Mark],
     others: &Others,

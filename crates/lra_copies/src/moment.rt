@@ -5,14 +5,14 @@ ghost use Rattle.lra_copies.specs.Moments.{is_over, is_over_since};
 
 use std::time::Duration;
 
-/// Whether so long a time is over that began at a moment.
+/// Whether this time has passed since a moment.
 pub(crate) fn is_over(time: Duration, since: Duration, now: Duration) -> bool
     ensures { result ≡ is_over (as_nanos time) since now }
 {
     time.as_nanos() <= now.saturating_sub(since).as_nanos()
 }
 
-/// The same, where it began at all.
+/// The same, and true if there is no such moment.
 pub(crate) fn is_over_since(time: Duration, since: Option<Duration>, now: Duration) -> bool
     ensures { result ≡ is_over_since (as_nanos time) since now }
 {

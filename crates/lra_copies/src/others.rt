@@ -1,11 +1,11 @@
-// How many facts of this node the others have.
+// How many facts of this node the other nodes have.
 ghost use Rattle.std.specs.Prelude.{◌≡◌, ◌<◌, ◌+◌, ◌≤◌, length, replicate};
 ghost use Rattle.lra_id.specs.declared.TheConstants.{MAX_NODES};
 ghost use Rattle.lra_copies.specs.Spreads.{have, holders, is_holder, is_other, with_told};
 
 use lra_id::{Front, NodeId};
 
-/// Whether the node at a place isn't this one, and told of so many facts or more.
+/// Whether the node at a position is not this one, and reported at least this many facts.
 fn is_holder(told: &[u64], me: NodeId, least: u64, place: usize) -> bool
     requires { place < length told.now }
     ensures { result ≡ is_holder me least told.now (place + 1) }
@@ -13,7 +13,7 @@ fn is_holder(told: &[u64], me: NodeId, least: u64, place: usize) -> bool
     place + 1 != usize::from(me.number()) && least <= told[place]
 }
 
-/// How many others told of so many facts, or more.
+/// Returns how many other nodes reported at least this many facts.
 fn holders(told: &[u64], me: NodeId, least: u64) -> usize
     ensures { result ≡ holders me least told.now }
 {
@@ -26,11 +26,11 @@ fn holders(told: &[u64], me: NodeId, least: u64) -> usize
     found
 }
 
-/// How many facts of this node each other told that it has.
+/// How many facts of this node each other node reported to have.
 #[derive(Drop)]
 pub(crate) struct Others {
     pub(crate) me: NodeId,
-    /// How many of them are to have a fact.
+    /// How many other nodes are to have a fact.
     pub(crate) wanted: u8,
     pub(crate) told: Front,
 }
@@ -47,21 +47,21 @@ impl Others {
         }
     }
 
-    /// Whether a node is one of them.
+    /// Whether a node is one of the others.
     pub(crate) fn has(&self, node: NodeId) -> bool
         ensures { result ≡ is_other node self.now }
     {
         node != self.me && usize::from(node.number()) <= self.told.nodes()
     }
 
-    /// Whether as many as are wanted have so many facts.
+    /// Whether as many others as are wanted have at least this many facts.
     pub(crate) fn have(&self, least: u64) -> bool
         ensures { result ≡ have self.now least }
     {
         usize::from(self.wanted) <= holders(self.told.as_slice(), self.me, least)
     }
 
-    /// Notes that one of them has so many.
+    /// Records that another node has this many facts.
     pub(crate) fn note(&mut self, other: NodeId, count: u64)
         requires { other ≤ length self.old.told }
         ensures { self.new ≡ with_told other count self.old }

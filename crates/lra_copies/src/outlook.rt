@@ -1,4 +1,4 @@
-// What is remembered of another node, to tell what is wrong with it.
+// What is remembered of trouble with another node, to log it.
 ghost use Rattle.std.specs.Prelude.{◌≡◌, false, not, true};
 ghost use Rattle.lra_copies.specs.Outlooks.{is_due, none, since_of, with_answer, with_failure, with_odd};
 
@@ -6,10 +6,10 @@ use crate::moment::is_over;
 use std::marker::Model;
 use std::time::Duration;
 
-/// For how long nothing can be had of another node before that is told.
+/// How long nothing must be received from another node before that is logged.
 const SILENCE_MS: u64 = 5_000;
 
-/// Since when nothing can be had, where a pull failed that began at a moment.
+/// Returns since when nothing was received, given a failed pull that began at a moment.
 fn since_of(since: Option<Duration>, began: Duration) -> Duration
     ensures { result ≡ since_of since began }
 {
@@ -19,15 +19,15 @@ fn since_of(since: Option<Duration>, began: Duration) -> Duration
     }
 }
 
-/// What is remembered of another node, to tell what is wrong with it: once, until it is well again.
+/// What is remembered of trouble with another node, to log it once until all is well again.
 #[derive(Drop)]
 pub struct Outlook {
-    /// Since when nothing can be had of it.
+    /// Since when nothing was received from it.
     since: Option<Duration>,
-    /// Whether that was told.
+    /// Whether that was logged.
     is_told: bool,
-    /// Whether it was told that its journal, or this node's, is older than what was told; or that
-    /// what it told can't be taken.
+    /// Whether it was logged that this node's journal, or the other's, is older than what was sent,
+    /// or that what the other sent can't be taken.
     is_odd: bool,
 }
 
@@ -40,7 +40,7 @@ impl Model for Outlook {
 }
 
 impl Outlook {
-    /// Nothing is wrong.
+    /// Makes the state without trouble.
     pub fn new() -> Outlook
         ensures { result ≡ none }
     {
@@ -51,8 +51,7 @@ impl Outlook {
         }
     }
 
-    /// Notes that nothing can be had that was asked for at a moment. It says whether that is to be
-    /// told now.
+    /// Records that a pull that began at a moment failed. Returns whether that is to be logged now.
     pub fn note_failure(&mut self, began: Duration, now: Duration) -> bool
         ensures due { result ≡ is_due began now self.old }
         ensures failed { self.new ≡ with_failure began now self.old }
@@ -64,7 +63,7 @@ impl Outlook {
         is_due
     }
 
-    /// Notes that it answers. It says whether it is to be told now that it does again.
+    /// Records that the node answers. Returns whether it is to be logged now that it answers again.
     pub fn note_answer(&mut self) -> bool
         ensures told { result ≡ self.old.is_told }
         ensures answered { self.new ≡ with_answer self.old }
@@ -75,15 +74,15 @@ impl Outlook {
         was_told
     }
 
-    /// Notes that no journal is older, and what was told is taken.
+    /// Records that no journal is older, and that what was received is taken.
     pub fn note_well(&mut self)
         ensures { self.new ≡ with_odd false self.old }
     {
         self.is_odd = false;
     }
 
-    /// Notes that a journal is older, or that something can't be taken. It says whether that is to be
-    /// told now.
+    /// Records that a journal is older, or that something can't be taken. Returns whether that is
+    /// to be logged now.
     pub fn note_odd(&mut self) -> bool
         ensures due { result ≡ not self.old.is_odd }
         ensures odd { self.new ≡ with_odd true self.old }

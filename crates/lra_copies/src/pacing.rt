@@ -1,4 +1,4 @@
-// When pulls that are held are served.
+// Decides when held pulls are served.
 ghost use Rattle.std.specs.Prelude.{◌≡◌, ◌<◌, ◌+◌, ◌↔◌, IsTrue, length};
 ghost use Rattle.std.specs.Duration.{as_nanos};
 ghost use Rattle.lra_copies.specs.Paces.{DoAllListen, asked_at, at_rest, gap, given_at, listens, mean_with, moment_of, nanos_between, verdict_of, with_begin, with_end};
@@ -9,23 +9,22 @@ use lra_id::{MAX_NODES, NodeId};
 use std::marker::Model;
 use std::time::Duration;
 
-/// How many nodes there are at most.
+/// The most nodes that there are.
 const NODES: usize = MAX_NODES as usize;
 
-/// Within how long a time another node has to have asked to be ready for what is new, in
-/// milliseconds.
+/// How recently another node must have asked to count as ready for news, in milliseconds.
 const LISTENS_MS: u64 = 1_000;
 
-/// How long it is at most from one frame to the next that one node gets, in nanoseconds.
+/// The longest gap between two frames for the same node, in nanoseconds.
 const MAX_GAP: u64 = 50_000_000;
 
-/// How long a pull is held whose asker lacks nothing, and one whose asker lacks facts of others, in
+/// How long a pull is held if its asker lacks nothing, and if its asker lacks facts of others, in
 /// milliseconds.
 const REST_MS: u64 = 4_000;
 
 const ROUND_MS: u64 = 500;
 
-/// The nanoseconds from one moment to another, or as many as there can be.
+/// Returns the nanoseconds from one moment to another, or the most that there can be.
 fn nanos_between(since: Duration, now: Duration) -> u64
     ensures { result ≡ nanos_between since now }
 {
@@ -33,7 +32,7 @@ fn nanos_between(since: Duration, now: Duration) -> u64
     nanos.min(u128::from(u64::MAX)) as u64
 }
 
-/// The mean once a change took so long.
+/// Returns the mean after a change that took this long.
 fn mean_with(mean: Option<u64>, nanos: u64) -> u64
     ensures { result ≡ mean_with mean nanos }
 {
@@ -43,7 +42,7 @@ fn mean_with(mean: Option<u64>, nanos: u64) -> u64
     }
 }
 
-/// Whether one that asked then, if ever, asked within the last second.
+/// Whether a node that asked at this moment, if ever, asked within the last second.
 fn listens(asked: Option<Duration>, now: Duration) -> bool
     ensures { result ≡ listens asked now }
 {
@@ -53,7 +52,7 @@ fn listens(asked: Option<Duration>, now: Duration) -> bool
     }
 }
 
-/// When pulls that are held are served.
+/// When held pulls are served.
 #[derive(Drop)]
 pub struct Pacing {
     /// When each node last asked, and when it last got a frame.
@@ -61,7 +60,7 @@ pub struct Pacing {
     given: [Option<Duration>; NODES],
     /// When a run ended that no other has followed yet.
     ended: Option<Duration>,
-    /// How long a change from one run to the next takes, in nanoseconds; none before the first.
+    /// How long a change from one run to the next takes, in nanoseconds; `None` before the first.
     change: Option<u64>,
 }
 
@@ -74,7 +73,7 @@ impl Model for Pacing {
 }
 
 impl Pacing {
-    /// Nobody has asked.
+    /// Makes the state in which no node has asked.
     pub fn new() -> Pacing
         ensures { result ≡ at_rest }
     {
@@ -86,21 +85,21 @@ impl Pacing {
         }
     }
 
-    /// Notes that another node asks, and is ready to wait.
+    /// Records that another node asks, and is ready to wait.
     pub fn note_asked(&mut self, other: NodeId, now: Duration)
         ensures { self.new ≡ asked_at other now self.old }
     {
         self.asked[usize::from(other.number()) - 1] = Some(now);
     }
 
-    /// Notes that it gets a frame.
+    /// Records that another node gets a frame.
     pub fn note_given(&mut self, other: NodeId, now: Duration)
         ensures { self.new ≡ given_at other now self.old }
     {
         self.given[usize::from(other.number()) - 1] = Some(now);
     }
 
-    /// When the node at a place asked, if ever.
+    /// Returns when the node at a position asked, if ever.
     fn asked_by(&self, place: usize) -> Option<Duration>
         ensures { result ≡ moment_of self.now.asked (place + 1) }
     {
@@ -110,7 +109,7 @@ impl Pacing {
         }
     }
 
-    /// Whether each other node of so many asked within the last second.
+    /// Whether each other node of a group of `nodes` nodes asked within the last second.
     pub fn do_all_listen(&self, me: NodeId, nodes: u8, now: Duration) -> bool
         ensures { IsTrue result ↔ DoAllListen me nodes now self.now }
     {
@@ -122,14 +121,14 @@ impl Pacing {
         true
     }
 
-    /// Notes that a run ends.
+    /// Records that a run ends.
     pub fn note_end(&mut self, now: Duration)
         ensures { self.new ≡ with_end now self.old }
     {
         self.ended = Some(now);
     }
 
-    /// Notes that the next one has begun.
+    /// Records that the next run has begun.
     pub fn note_begun(&mut self, now: Duration)
         ensures { self.new ≡ with_begin now self.old }
     {
@@ -139,8 +138,8 @@ impl Pacing {
         }
     }
 
-    /// How long it is at least from one frame to the next that one node gets: a change of runs for
-    /// each other node, and 50 ms at most.
+    /// Returns the least gap between two frames for the same node: a change of runs for each other
+    /// node, and at most 50 ms.
     pub fn gap(&self, nodes: u8) -> Duration
         ensures { as_nanos result ≡ gap nodes self.now }
     {
@@ -149,8 +148,8 @@ impl Pacing {
         Duration::from_nanos(gap.min(MAX_GAP))
     }
 
-    /// What is done with a pull that has waited since a moment, by whether there is news of this
-    /// node for its asker, and whether the asker lacks facts of other nodes.
+    /// Returns what is done with a pull that has waited since a moment, given whether there is news
+    /// of this node for its asker, and whether the asker lacks facts of other nodes.
     pub fn verdict(
         &self,
         nodes: u8,

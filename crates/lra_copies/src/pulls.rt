@@ -1,57 +1,60 @@
-// How the next pull from another node goes.
+// Schedules the next pull from another node.
 ghost use Rattle.std.specs.Prelude.{◌≡◌};
 ghost use Rattle.lra_copies.specs.Pulls.{behind, first, hasty_after, holds_after, is_at_once, is_held, is_soon, may_wait, next_of, pause_after, round_after};
 
 use crate::moment::is_over;
 use std::time::Duration;
 
-/// How long a node pauses after a pull, save where the next follows at once.
+/// How long a node pauses after a pull, unless the next follows at once.
 const PAUSE_MS: u64 = 50;
 
-/// From how long a pull on that comes to nothing the other node has held it: it does so for half a
-/// second at least.
+/// If a pull that brought nothing took at least this long, the other node held it: a node holds
+/// pulls for at least half a second.
 const HELD_MS: u64 = 400;
 
-/// How many pulls in a row may come to nothing at once before the other node seems to hold none.
+/// How many pulls in a row may bring nothing and return at once before the other node seems to hold
+/// none.
 const MANY_HASTY: u64 = 32;
 
-/// How long it waits before it tries again one that wasn't heard yet. It doubles each time.
+/// How long to wait before the next try at a node that hasn't answered yet. It doubles each time.
 const FIRST_ROUND_MS: u64 = 100;
 
-/// How long it waits for news of another node where something was new the last time.
+/// How long to wait for news of another node if there was something new the last time.
 const SHORT_ROUND_MS: u64 = 500;
 
-/// How long it waits at rest, and where the other can't be reached, at last.
+/// How long to wait in the end, if there is nothing new or the other node can't be reached.
 const LONG_ROUND_MS: u64 = 5_000;
 
-/// What a pull came to.
+/// The result of a pull.
 #[derive(Clone, Copy, Debug, PartialEq, Eq)]
 pub enum Pulled {
-    /// Something new was told, and is taken.
+    /// Something new was sent, and is taken.
     New,
     /// Something new is handed over, and isn't taken yet.
     Untaken,
-    /// Something new couldn't be stored. It is kept in memory, and stored once the journal takes it.
+    /// Something new couldn't be stored. It is kept in memory, and stored once the journal accepts
+    /// it.
     Kept,
-    /// Nothing is new.
+    /// There is nothing new.
     Nothing,
-    /// The other can't be reached.
+    /// The other node can't be reached.
     Unreached,
-    /// It gives no frame.
+    /// The other node gives no frame.
     Unanswered,
-    /// What is reached there is another node, or one of another group.
+    /// Another node was reached there, or a node of another group.
     Misdirected,
-    /// What it told can't be taken, by the number of the refusal.
+    /// What the other node sent can't be taken: the number of the refusal.
     Refused(u64),
-    /// It has fewer facts of its own than it told before.
+    /// The other node has fewer facts of its own than it sent before.
     Older,
-    /// It has more facts of this node than this node's journal.
+    /// The other node has more facts of this node than this node's journal.
     Newer,
-    /// It has facts of this node, whose journal is new, and nobody said that the old one is lost.
+    /// The other node has facts of this node, whose journal is new, and nobody said that the old
+    /// journal is lost.
     Lost,
 }
 
-/// How long a round is, in milliseconds, by what the last pull came to.
+/// Returns how long a round is, in milliseconds, given the result of the last pull.
 fn round_after(pulled: Pulled, round_ms: u64) -> u64
     ensures { result ≡ round_after pulled round_ms }
 {
@@ -61,7 +64,7 @@ fn round_after(pulled: Pulled, round_ms: u64) -> u64
     }
 }
 
-/// How long is paused after a pull, in milliseconds, whatever news there is.
+/// Returns how long to pause after a pull, in milliseconds, whatever news there is.
 fn pause_after(pulled: Pulled, round_ms: u64) -> u64
     ensures { result ≡ pause_after pulled round_ms }
 {
@@ -78,7 +81,7 @@ fn may_wait(pulled: Pulled) -> bool
     matches!(pulled, Pulled::New | Pulled::Nothing | Pulled::Older)
 }
 
-/// Whether the next pull follows at once, by whether this one was held, and might wait.
+/// Whether the next pull follows at once, given whether this one was held, and was allowed to wait.
 fn is_at_once(pulled: Pulled, is_held: bool, waits: bool) -> bool
     ensures { result ≡ is_at_once pulled is_held waits }
 {
@@ -89,8 +92,8 @@ fn is_at_once(pulled: Pulled, is_held: bool, waits: bool) -> bool
     }
 }
 
-/// Whether the other node is known to hold pulls: it held one before, or holds this one, or it asks
-/// this node by pulls that wait.
+/// Whether the other node is known to hold pulls: it held one before, or this one, or it sends this
+/// node pulls that wait.
 fn holds_after(pulled: Pulled, is_held: bool, asks_waiting: bool, holds: bool) -> bool
     ensures { result ≡ holds_after pulled is_held asks_waiting holds }
 {
@@ -100,7 +103,7 @@ fn holds_after(pulled: Pulled, is_held: bool, asks_waiting: bool, holds: bool) -
     }
 }
 
-/// How many in a row weren't followed at once.
+/// Returns how many pulls in a row weren't followed at once.
 fn hasty_after(is_at_once: bool, hasty: u64) -> u64
     ensures { result ≡ hasty_after is_at_once hasty }
 {
@@ -111,8 +114,9 @@ fn hasty_after(is_at_once: bool, hasty: u64) -> u64
     }
 }
 
-/// Whether the next pull waits for no news. A node of an older version never holds any. What isn't
-/// taken yet is asked for once more soon: that pull tells the other node that it is stored.
+/// Whether the next pull doesn't wait for news. A node of an older version never holds pulls. What
+/// isn't taken yet is soon asked for once more: that pull reports to the other node that it is
+/// stored.
 fn is_soon(pulled: Pulled, holds: bool, hasty: u64) -> bool
     ensures { result ≡ is_soon pulled holds hasty }
 {
@@ -123,24 +127,24 @@ fn is_soon(pulled: Pulled, holds: bool, hasty: u64) -> bool
     }
 }
 
-/// How the next pull from another node goes.
+/// How the next pull from another node is made.
 #[derive(Clone, Copy)]
 pub struct NextPull {
     /// How long a round is, in milliseconds.
     pub round_ms: u64,
-    /// How long is paused first, and then waited for news of the other node, in milliseconds.
+    /// How long to pause first, and then to wait for news of the other node, in milliseconds.
     pub pause_ms: u64,
     pub wait_ms: u64,
-    /// Whether it may wait at the other node.
+    /// Whether the pull may wait at the other node.
     pub waits: bool,
-    /// Whether the other node has held one since it was last heard anew.
+    /// Whether the other node has held a pull since it last began to answer again.
     pub holds: bool,
-    /// How many in a row weren't followed at once.
+    /// How many pulls in a row weren't followed at once.
     pub hasty: u64,
 }
 
 impl NextPull {
-    /// The first one, which waits for nothing.
+    /// Returns the first pull, which waits for nothing.
     pub fn first() -> NextPull
         ensures { result ≡ first }
     {
@@ -154,10 +158,11 @@ impl NextPull {
         }
     }
 
-    /// The one behind this one, which came to so much, and was held or wasn't. `asks_waiting` says
-    /// whether the other node asks this one by pulls that wait, as those do that hold them. The next
-    /// one follows at once if this one brought something, was held, or waited for nothing; and after
-    /// a short pause if the other node is known to hold pulls, or may do so.
+    /// Returns the pull that follows this one, which had this result, and was held or not.
+    /// `asks_waiting` says whether the other node sends this one pulls that wait, as nodes do that
+    /// hold them. The next pull follows at once if this one brought something, was held, or wasn't
+    /// allowed to wait; and after a short pause if the other node is known to hold pulls, or may do
+    /// so.
     pub fn behind(self, pulled: Pulled, is_held: bool, asks_waiting: bool) -> NextPull
         ensures { result ≡ behind pulled is_held asks_waiting self }
     {
@@ -177,7 +182,7 @@ impl NextPull {
         }
     }
 
-    /// Whether a pull that went so was held, which began at a moment and is over now.
+    /// Whether a pull made in this way was held, given when it began and that it is over now.
     pub fn is_held(self, began: Duration, now: Duration) -> bool
         ensures { result ≡ is_held began now self }
     {

@@ -1,36 +1,39 @@
-// How one stands that waits.
+// The standing of an answer or a list that waits.
 
-/// How an answer stands, or a list of calls, that waits until other nodes have what it may show.
+/// The standing of an answer, or of a list of duties, that waits until other nodes have what it may
+/// show.
 #[derive(Clone, Copy, Debug, PartialEq, Eq)]
 pub enum Standing {
-    /// They have it.
+    /// The other nodes have it.
     Copied,
     /// They don't, and it waits no longer.
     Late,
-    /// It waits on.
+    /// It goes on waiting.
     Waits,
 }
 
-/// What is done with a pull that is held.
+/// What is done with a held pull.
 #[derive(Clone, Copy, Debug, PartialEq, Eq)]
 pub enum Verdict {
     /// It is served now.
     Serve,
-    /// There is news for its asker, which had a frame just now: it is served in 50 ms at most.
+    /// There is news for its asker, which got a frame just now: it is served within 50 ms.
     Soon,
     /// It waits for news.
     Later,
 }
 
-/// What becomes of participants that wait to be called.
+/// What happens to participants that wait to be called.
 #[derive(Clone, Copy, Debug, PartialEq, Eq)]
 pub enum Fate {
-    /// They wait on, or none wait.
+    /// They go on waiting, or none wait.
     OnHold,
-    /// They wait on, and their list is too old from now on: they are late, and that is strict.
+    /// They go on waiting, and their list is too old from now on: they are late, and calls are
+    /// strict.
     Outdated,
-    /// Those in their list are called; and it is asked again who is to be called, or it isn't.
+    /// The participants on their list are called. `asks_again` says whether a new list is asked for
+    /// too.
     Called { asks_again: bool },
-    /// Their list is too old: it is asked again who is to be called.
+    /// Their list is too old: a new one is asked for.
     Asked,
 }

@@ -1,4 +1,4 @@
-// Who waits until other nodes have what it may show.
+// Answers and lists that wait until other nodes have what they may show.
 ghost use Rattle.std.specs.Prelude.{◌≡◌, is_some};
 ghost use Rattle.lra_copies.specs.Spreads.{standing_of, stood};
 ghost use Rattle.lra_copies.specs.Waits.{after_of, counted, fate_kept, fate_of, fate_released, go_on, kept, nobody, released, stood_of, with_calls, with_question, with_told};
@@ -17,7 +17,7 @@ pub(crate) struct CallsHeld {
     pub(crate) is_old: bool,
 }
 
-/// Whether participants that stand so wait no longer.
+/// Whether participants with this standing wait no longer.
 fn go_on(standing: Standing, is_strict: bool) -> bool
     ensures { result ≡ go_on standing is_strict }
 {
@@ -28,15 +28,16 @@ fn go_on(standing: Standing, is_strict: bool) -> bool
     }
 }
 
-/// Who waits until others have what it may show, and how many went on. It doesn't know their list.
+/// What waits until other nodes have what it may show, and how many of these went on. It doesn't
+/// know the participants' list.
 #[derive(Drop)]
 pub struct Waiters {
     calls: Option<CallsHeld>,
-    /// Whether it is to be asked again who is to be called, once those don't wait.
+    /// Whether a new list is to be asked for once the participants no longer wait.
     asks_again: bool,
     copied: u64,
     late: u64,
-    /// How many were late since that was last told.
+    /// How many were late since that was last logged.
     untold: u64,
 }
 
@@ -55,7 +56,7 @@ impl Model for Waiters {
 }
 
 impl Waiters {
-    /// Nobody waits.
+    /// Makes the state in which nothing waits.
     pub fn new() -> Waiters
         ensures { result ≡ nobody }
     {
@@ -68,7 +69,7 @@ impl Waiters {
         }
     }
 
-    /// Counts one that stands so, if it goes on.
+    /// Counts an answer or a list with this standing, if it goes on.
     fn count(&mut self, standing: Standing)
         ensures { self.new ≡ counted standing self.old }
     {
@@ -82,7 +83,8 @@ impl Waiters {
         }
     }
 
-    /// How an answer stands that waits for a ticket since a moment. It is counted once it goes on.
+    /// Returns the standing of an answer that has waited for a ticket since a moment. It is counted
+    /// once it goes on.
     pub fn stand(
         &mut self,
         copies: &mut Copies,
@@ -100,7 +102,7 @@ impl Waiters {
         standing
     }
 
-    /// Has participants wait for a ticket.
+    /// Makes participants wait for a ticket.
     pub fn hold_calls(&mut self, ticket: u64, now: Duration)
         ensures { self.new ≡ with_calls ticket now self.old }
     {
@@ -118,7 +120,8 @@ impl Waiters {
         self.calls.is_some()
     }
 
-    /// Whether participants wait. Then it is asked again who is to be called, once they don't.
+    /// Whether callbacks are on hold. If so, a new list of duties is asked for once they are
+    /// released.
     pub fn puts_off(&mut self) -> bool
         ensures holds { result ≡ is_some self.old.calls }
         ensures asks { self.new ≡ with_question self.old }
@@ -128,7 +131,7 @@ impl Waiters {
         holds
     }
 
-    /// Has those go on who waited, and stand so.
+    /// Releases the participants that waited, given their standing.
     fn release(&mut self, calls: CallsHeld, standing: Standing) -> Fate
         ensures released { self.new ≡ released standing self.old }
         ensures fate { result ≡ fate_released calls self.old.asks_again }
@@ -144,7 +147,7 @@ impl Waiters {
         }
     }
 
-    /// Has those wait on who stand so.
+    /// Makes the participants go on waiting, given their standing.
     fn keep(&mut self, calls: CallsHeld, standing: Standing) -> Fate
         ensures kept { self.new ≡ kept calls standing self.old }
         ensures fate { result ≡ fate_kept standing }
@@ -162,8 +165,8 @@ impl Waiters {
         }
     }
 
-    /// What becomes of the participants that wait, if some do. Where that is strict those that are late
-    /// aren't called: it is asked anew who is, once others are back.
+    /// Returns what happens to the participants that wait, if any. If calls are strict,
+    /// participants that are late aren't called: a new list is asked for once other nodes are back.
     pub fn take_calls(&mut self, copies: &mut Copies, now: Duration, is_strict: bool) -> Fate
         ensures fate { result ≡ fate_of self.old.calls now is_strict copies.old self.old.asks_again }
         ensures stood { copies.new ≡ stood_of self.old.calls now is_strict copies.old }
@@ -179,21 +182,22 @@ impl Waiters {
         self.keep(calls, standing)
     }
 
-    /// How many answers and lists went on that as many others had as are wanted.
+    /// Returns how many answers and lists went on because as many others as are wanted had what
+    /// they show.
     pub fn copied(&self) -> u64
         ensures { result ≡ self.now.copied }
     {
         self.copied
     }
 
-    /// How many went on that were late.
+    /// Returns how many went on although they were late.
     pub fn late(&self) -> u64
         ensures { result ≡ self.now.late }
     {
         self.late
     }
 
-    /// How many were late since this was last asked.
+    /// Returns how many were late since this was last asked.
     pub fn take_untold(&mut self) -> u64
         ensures untold { result ≡ self.old.untold }
         ensures told { self.new ≡ with_told self.old }
