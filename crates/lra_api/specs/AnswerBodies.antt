@@ -4,7 +4,7 @@ use Rattle.lra_delta.specs.Encoding.{encoding}
 use Rattle.lra_api.specs.declared.body.BodyKind.{BodyKind}
 use Rattle.lra_api.specs.declared.body.BodyKind.TheVariants.{Bytes, Frame}
 
--- those of a delta that is lent are its encoding
+-- the bytes of a borrowed delta are its encoding
 abbrev pub bytes_of : BodyKind → List ℕ
 bytes_of (Bytes bytes) = bytes
 bytes_of (Frame delta) = encoding delta.now

@@ -1,5 +1,5 @@
--- What the bodies of requests say: JSON objects, of which members with other names are ignored, and a member that is `null`
--- counts as absent.
+-- What the bodies of requests say. They are JSON objects. Members with other names are ignored, and
+-- a member that is `null` counts as absent.
 use Rattle.std.specs.Prelude.{◌==◌, ◌+◌, ◌^◌, ◌≡◌, ℕ, List, codes, Option, Some, None, option_and_then, if◌then◌else◌, nat_lt, ⊤}
 use Rattle.std.specs.Str.{bytes_eq, is_utf8}
 use Rattle.serde_json.specs.Data.{Data, null, boolean, number, string, array, object}
@@ -15,7 +15,7 @@ use Rattle.lra_facts.specs.declared.refusal.Refusal.TheVariants.{BadText, NoMemo
 use Rattle.lra_facts.specs.Links.{Links, kept_links}
 use Rattle.lra_api.specs.Names.{id_of}
 
--- why what was to be read is not there: it breaks its grammar, or memory runs out
+-- why what was to be read is missing: it breaks its grammar, or memory ran out
 abbrev pub IsUnread : {A : Type 0} → Option A → Refusal → Type 0
 IsUnread found BadText = found ≡ None
 IsUnread found NoMemory = ⊤
@@ -35,7 +35,7 @@ object_in body = if is_utf8 body then option_and_then if_object (read body) else
 
 -- Members
 
--- a number of 64 bits: 0 where none is given
+-- a number of 64 bits: 0 if none is given
 abbrev pub limit_in : Option Data → Option ℕ
 limit_in None = Some 0
 limit_in (Some null) = Some 0
@@ -45,7 +45,7 @@ limit_in (Some (string s)) = None
 limit_in (Some (array ds)) = None
 limit_in (Some (object ms)) = None
 
--- a text, if one is given; nothing where something else is
+-- a text, if one is given; nothing if something else is given
 abbrev pub text_in : Option Data → Option (Option (List ℕ))
 text_in None = Some None
 text_in (Some null) = Some None
@@ -60,7 +60,7 @@ text_at name body = text_in (get name body)
 
 -- The body of a begin
 
--- so long after now: 0 for none, and nothing where it is no number of 64 bits
+-- the moment this long after now: 0 if the limit is 0, and nothing if it is no number of 64 bits
 abbrev pub deadline_of : ℕ → ℕ → Option ℕ
 deadline_of now limit = if limit == 0 then Some 0 else if nat_lt (now + limit) (2 ^ 64) then Some (now + limit) else None
 

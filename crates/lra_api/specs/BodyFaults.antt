@@ -1,5 +1,5 @@
--- What is wrong with the body of a request, and the text that says so. A body is wrong if it has a member that its call doesn't
--- know, or if the call is refused for it (E1).
+-- What is wrong with the body of a request, and the text that says so. A body is wrong if it has a
+-- member that its call doesn't know, or if the call is refused because of it (E1).
 use Rattle.std.specs.Prelude.{◌&&◌, ◌||◌, ◌==◌, ◌++◌, ℕ, Bool, false, List, codes, is_some, length, nat_le, not, Option, Some, None, option_and_then, option_map, if◌then◌else◌}
 use Rattle.std.specs.Char.{is_ascii_alphanumeric}
 use Rattle.std.specs.List.{list_all}
@@ -34,7 +34,7 @@ knows Join name =
     || (bytes_eq name (codes "forget") || bytes_eq name (codes "after"))))
 knows Report name = bytes_eq name (codes "act") || bytes_eq name (codes "outcome")
 
--- the name of the first other member
+-- the name of the first member that isn't known
 abbrev pub unknown_in : Form → Members → Option (List ℕ)
 unknown_in form no_members = None
 unknown_in form (member name d rest) = if knows form name then unknown_in form rest else Some name
@@ -46,11 +46,11 @@ unknown_of form body = option_and_then (unknown_in form) (as_object body)
 abbrev pub is_shown_byte : ℕ → Bool
 is_shown_byte b = is_ascii_alphanumeric b || (b == 45 || b == 95)
 
--- 1 to 32 of these
+-- 1 to 32 of these bytes
 abbrev pub is_shown : (name : List ℕ) → Bool
 is_shown name = nat_le 1 (length name) && (nat_le (length name) 32 && list_all is_shown_byte name)
 
--- an unknown member by its name, if that can be shown
+-- names an unknown member, if its name can be shown
 abbrev pub unknown_text : (name : List ℕ) → List ℕ
 unknown_text name = if is_shown name then name ++ codes " is not known here" else codes "a member is not known here"
 
@@ -72,7 +72,7 @@ link_name Status = codes "status"
 link_name Forget = codes "forget"
 link_name After = codes "after"
 
--- the first of the five that isn't so
+-- the first of the five for which this doesn't hold
 abbrev pub first_not : (LinkName → Bool) → Option LinkName
 first_not is =
     if not (is Complete) then Some Complete
@@ -82,7 +82,7 @@ first_not is =
     else if not (is After) then Some After
     else None
 
--- it is a text, or absent
+-- the link is a text, or absent
 abbrev pub is_text : Data → LinkName → Bool
 is_text body link = is_some (text_at (link_name link) body)
 
@@ -97,7 +97,7 @@ is_link body link = is_some (kept_if_given (text_of body link))
 abbrev pub is_given : Data → LinkName → Bool
 is_given body link = is_some (text_of body link)
 
--- a join gives `compensate`, or `after` alone
+-- a join gives `compensate`, or only `after`
 abbrev pub missing_fault : Data → Option BodyFault
 missing_fault body =
     if is_given body Compensate then None
@@ -121,7 +121,7 @@ fault_in Begin now body = begin_fault now body
 fault_in Join now body = join_fault body
 fault_in Report now body = report_fault body
 
--- what is said of each
+-- the text for each fault
 abbrev pub fault_text : BodyFault → List ℕ
 fault_text NoObject = codes "the body is no JSON object"
 fault_text (NoText link) = link_name link ++ codes " is no text"
@@ -136,7 +136,7 @@ fault_text NoOutcome = codes "outcome is none of busy, done and failed"
 
 -- Bodies
 
--- an unknown member is told before what is wrong with the others
+-- an unknown member is reported before anything that is wrong with the others
 abbrev pub why_with : (unknown : Option (List ℕ)) → Option BodyFault → Option (List ℕ)
 why_with (Some name) fault = Some (unknown_text name)
 why_with None fault = option_map fault_text fault
@@ -162,7 +162,8 @@ with_ids form (Some id) (Some m) = Some form
 with_ids form (Some id) None = None
 with_ids form None m = None
 
--- the form of the body that an action reads, if it reads one: ids that are wrong are refused before a body is read
+-- the form of the body that an action reads, if it reads one: wrong ids are refused before a body
+-- is read
 abbrev pub form_at : Action → (path : List ℕ) → Option Form
 form_at action.Begin path = Some Begin
 form_at action.Join path = option_map (λ id. Join) (id_in path)
@@ -181,7 +182,7 @@ form_by request endpoint = option_and_then (λ a. form_at a (path_of request.tar
 abbrev pub form_of : Request → Option Form
 form_of request = option_and_then (form_by request) (endpoint_of (path_of request.target))
 
--- what is wrong with the body of a request, if it has one and anything is
+-- what is wrong with the body of a request, if it has a body and anything is
 unfoldable pub why_in : ℕ → Request → Option (List ℕ)
 why_in now request = option_and_then (λ form. why_in_body form now request.body) (form_of request)
 

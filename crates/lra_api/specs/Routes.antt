@@ -124,11 +124,11 @@ abbrev pub by_endpoint : ℕ → Request → Option Endpoint → Result Call Unr
 by_endpoint now request (Some endpoint) = by_action now request endpoint (action_at endpoint (method_of request.method))
 by_endpoint now request None = Err NoPath
 
--- the call that a request asks for at a moment: by its path, then by its method, then by its id, number, query and body; or
--- the first of these that is wrong
+-- the call that a request asks for at a moment: determined by its path, then its method, then its
+-- id, number, query and body; or the first of these that is wrong
 abbrev pub routed : ℕ → Request → Result Call Unrouted
 routed now request = by_endpoint now request (endpoint_of (path_of request.target))
 
--- it is that, or the memory was wanting
+-- the result is that, or memory ran out
 abbrev pub Routes : Result Call Unrouted → Result Call Unrouted → Type 0
 Routes right result = (result ≡ right) ⊎ (result ≡ Err (Refused NoMemory))

@@ -1,4 +1,4 @@
--- What one request over a connection comes to.
+-- What serving one request over a connection results in.
 use Rattle.std.specs.Prelude.{◌≡◌, ◌⊎◌, ⊤, ℕ, List, Option, Some, None, Result, Ok, Err}
 use Rattle.lra_facts.specs.declared.refusal.Refusal.{Refusal}
 use Rattle.lra_facts.specs.declared.refusal.Refusal.TheVariants.{NoMemory}
@@ -20,36 +20,36 @@ use Rattle.lra_api.specs.Routes.{routed}
 use Rattle.lra_api.specs.Streams.{Sends, SendsNothing, SendsPart}
 use Rattle.lra_api.specs.BodyFaults.{why_in}
 
--- the text of E17 was written, or a part of it where a write failed, or nothing
+-- the text of E17 was written; or, if a write failed, a part of it; or nothing
 abbrev pub WritesNoMemory : {W : Type 0} → OfSink W → (old new : W) → Type 0
 WritesNoMemory sink old new =
     SendsNothing old new
     ⊎ (Sends sink old new (response_text (refusal_answer NoMemory))
     ⊎ SendsPart sink old new (response_text (refusal_answer NoMemory)))
 
--- what is told behind an answer: a clerk's refusal goes before how writing ended
+-- the result after an answer: a clerk's refusal takes precedence over how writing ended
 abbrev pub told_first : Option Refusal → Result ⊤ ServeError → Result ⊤ ServeError
 told_first None ended = ended
 told_first (Some refusal) ended = Err (Refused refusal)
 
--- the memory was refused, and that is written, or a part of it, or nothing
+-- memory was refused, and the text for that is written, or a part of it, or nothing
 abbrev pub EndsNoMemory : {W : Type 0} → OfSink W → (old new : W) → Option Refusal → Result ⊤ ServeError → Type 0
 EndsNoMemory sink old new refusal result = (result ≡ told_first refusal (Err (Refused NoMemory))) × WritesNoMemory sink old new
 
--- the text of an answer was written, or a part of it where a write failed; or the memory was refused
+-- the text of an answer was written; or, if a write failed, a part of it; or memory was refused
 abbrev pub Ends : {W : Type 0} → OfSink W → (old new : W) → Response → Option Refusal → Result ⊤ ServeError → Type 0
 Ends sink old new response refusal result =
     ((result ≡ told_first refusal (Ok tt)) × Sends sink old new (response_text response))
     ⊎ (((result ≡ told_first refusal (Err WriteFault)) × SendsPart sink old new (response_text response))
     ⊎ EndsNoMemory sink old new refusal result)
 
--- Serving. `same`: no call is made. `makes`: this call is made, once, and this comes of it
+-- Serving. `same`: no call is made. `makes`: this call is made, once, with this result
 
 -- one call of a clerk, and its receipt
 abbrev pub Makes : {C : Type 0} → OfClerk C → (old new : C) → (now : ℕ) → Call → Result Reply Refusal → Type 0
 Makes clerk old new now call outcome = IsOutcome (clerk.receipts old) (clerk.receipts new) call outcome × clerk.called old new call now outcome
 
--- the answer to what comes of a call, and the refusal behind it
+-- the answer to the result of a call, and the refusal that it is for
 abbrev pub answer_to : Result Reply Refusal → Response
 answer_to (Ok reply) = answer_of reply
 answer_to (Err refusal) = refusal_answer refusal
@@ -58,7 +58,7 @@ abbrev pub refusal_in : Result Reply Refusal → Option Refusal
 refusal_in (Ok reply) = None
 refusal_in (Err refusal) = Some refusal
 
--- a call is made, and the answer to what comes of it is written
+-- a call is made, and the answer to its result is written
 abbrev pub ServesCall : {W : Type 0} → (makes : Result Reply Refusal → Type 0) → OfSink W → (old new : W) → Result ⊤ ServeError → Type 0
 ServesCall makes sink old new result =
     (outcome : Result Reply Refusal) × makes outcome × Ends sink old new (answer_to outcome) (refusal_in outcome) result
@@ -78,7 +78,8 @@ ServesUnless None same makes sink old new asked result = ServesRequest same make
 abbrev pub ServesOrExplains : {W : Type 0} → (same : Type 0) → (makes : Call → Result Reply Refusal → Type 0) → OfSink W → (old new : W) → (now : ℕ) → Request → Result ⊤ ServeError → Type 0
 ServesOrExplains same makes sink old new now request result = ServesUnless (why_in now request) same makes sink old new (routed now request) result
 
--- what is no whole request is served: nothing is written where the input ended or a read failed
+-- input that is not a whole request is served: nothing is written if the input ended or a read
+-- failed
 abbrev pub ServesFault : {W : Type 0} → OfSink W → (old new : W) → Fault → Result ⊤ ServeError → Type 0
 ServesFault sink old new fault.Cut result = (result ≡ Err Cut) × SendsNothing old new
 ServesFault sink old new fault.ReadFault result = (result ≡ Err ReadFault) × SendsNothing old new

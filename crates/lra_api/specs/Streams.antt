@@ -1,4 +1,4 @@
--- What was read from a source and written to a sink: the words of streams stand here alone.
+-- What was read from a source and written to a sink. Only this file uses the words of streams.
 use Rattle.std.specs.Prelude.{◌≡◌, ◌+◌, ℕ, List, Result, Ok, Err, length}
 use Rattle.lra_http.specs.declared.Sink.{Ghosts as OfSink}
 use Rattle.lra_http.specs.declared.Source.{Ghosts as OfSource}
@@ -11,12 +11,13 @@ use Rattle.lra_http.specs.Streams.{AllWell, GivesWhat, IsFlushed, IsLost, Reads,
 
 -- Reading
 
--- the most calls that take bytes of a request: a head that is too long is told at its last byte but one
+-- the most calls that take bytes of a request: that a head is too long shows one byte beyond its
+-- limit
 abbrev pub max_reads : ℕ
 max_reads = 16385 + max_body_bytes
 
--- What was given is one whole request, and no byte more; or it shows a fault, whatever follows. And a fault of the stream has its
--- cause, no call follows one that failed, and there are at most so many
+-- What was given is exactly one whole request, or it shows a fault, whatever follows. A fault of
+-- the stream has its cause, no call follows a failed one, and the number of calls is bounded
 abbrev pub IsReading : {R : Type 0} → OfSource R → (old new : R) → Result Request Fault → Type 0
 IsReading source old new (Ok request) =
     GivesWhat (source.stream old) (source.stream new) (λ bytes. IsRequestMessage max_body_bytes bytes request) × AllWell max_reads 0 (source.calls old) (source.calls new)
@@ -34,6 +35,6 @@ abbrev pub Sends : {W : Type 0} → OfSink W → (old new : W) → List ℕ → 
 Sends sink old new text =
     Takes (sink.stream old) (sink.stream new) text × IsFlushed (sink.stream new) × AllWell (length text + 1) 0 (sink.calls old) (sink.calls new)
 
--- a write failed, or 1,024 were interrupted, and a prefix of a text was written
+-- a write failed, or 1,024 writes were interrupted, and a prefix of a text was written
 abbrev pub SendsPart : {W : Type 0} → OfSink W → (old new : W) → List ℕ → Type 0
 SendsPart sink old new text = IsLost (length text + 1) 0 (sink.calls old) (sink.calls new) × TakesPart (sink.stream old) (sink.stream new) text

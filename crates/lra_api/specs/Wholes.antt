@@ -11,7 +11,7 @@ use Rattle.lra_http.specs.Responses.{IsResponse, head_room}
 use Rattle.lra_book.specs.declared.calls.Reply.{Reply}
 use Rattle.lra_book.specs.declared.calls.Reply.TheVariants as reply
 
--- the member number that was given, if one was, is a number of 64 bits
+-- the member number that was given, if any, is a number of 64 bits
 abbrev pub IsNumberedCommand : CommandReply → Type 0
 IsNumberedCommand (command.Joined id m) = m < 2 ^ 64
 IsNumberedCommand _ = ⊤
@@ -20,8 +20,8 @@ abbrev pub IsNumbered : Reply → Type 0
 IsNumbered (reply.Command r) = IsNumberedCommand r
 IsNumbered _ = ⊤
 
--- The text of a response begins with one whole response, for a reader with such a limit on bodies: it has the same status,
--- fields and body, and what follows the text is left
+-- The text of a response begins with one whole response, for a reader with this limit on bodies: it
+-- has the same status, fields and body, and what follows the text is left
 abbrev pub IsWhole : (limit : ℕ) → Response → (rest : List ℕ) → Type 0
 IsWhole limit r rest =
     (h : ResponseHead) × IsResponse head_room limit (response_text r ++ rest) h r.body rest

@@ -13,7 +13,7 @@ pub(crate) enum BodyKind<'a> {
     Frame(&'a Delta),
 }
 
-/// The body of an answer: bytes, or the encoding of a delta that is lent, which is made as it is
+/// The body of an answer: bytes, or the encoding of a borrowed delta, which is made as it is
 /// written.
 #[derive(Drop)]
 pub struct Body<'a> {
@@ -30,7 +30,7 @@ impl<'a> Model for Body<'a> {
 }
 
 impl<'a> Body<'a> {
-    /// These bytes.
+    /// Makes a body of these bytes.
     pub fn of_bytes(bytes: Vec<u8>) -> Body<'a>
         ensures { result ≡ bytes.items }
     {
@@ -39,7 +39,7 @@ impl<'a> Body<'a> {
         }
     }
 
-    /// The bytes that encode this delta.
+    /// Makes a body of the bytes that encode this delta.
     pub fn of_frame(delta: &'a Delta) -> Body<'a>
         ensures { result ≡ encoding delta.now }
     {

@@ -1,4 +1,4 @@
-// What is wrong with the body of a request, and the text that says so.
+// Finds out what is wrong with the body of a request, and makes the text that says so.
 ghost use Rattle.std.specs.Prelude.{◌≡◌, IfOk, None, Some, is_some, option_map, string_bytes};
 ghost use Rattle.std.specs.List.{list_all};
 ghost use Rattle.std.specs.Option.{option_copied};
@@ -34,10 +34,10 @@ pub(crate) enum LinkName {
     After,
 }
 
-/// What is wrong with a body that has known members alone.
+/// What is wrong with a body all of whose members are known.
 #[derive(Clone, Copy, Debug, PartialEq, Eq)]
 pub(crate) enum BodyFault {
-    /// It is no JSON object.
+    /// It is not a JSON object.
     NoObject,
     NoText(LinkName),
     /// It has neither `compensate` nor `after`.
@@ -47,7 +47,7 @@ pub(crate) enum BodyFault {
     NoLink(LinkName),
     NoParent,
     NoLimit,
-    /// It ends beyond the last millisecond of 64 bits.
+    /// The time limit ends beyond the last millisecond of 64 bits.
     LongLimit,
     NoAct,
     NoOutcome,
@@ -81,7 +81,7 @@ fn knows(form: Form, name: &str) -> bool
     }
 }
 
-/// The name of the first member that the call doesn't know.
+/// Returns the name of the first member that the call doesn't know.
 fn unknown_in(form: Form, members: &Map<String, Value>) -> Option<&str>
     ensures { option_copied result ≡ unknown_in form (members_view members.now.entries) }
 {
@@ -164,7 +164,7 @@ fn is_text(value: &Value, link: LinkName) -> bool
     text_in(value.get(link.name())).is_some()
 }
 
-/// The first member of a join that is no text.
+/// Returns the first member of a join that is not a text.
 fn no_text(value: &Value) -> Option<LinkName>
     ensures { result ≡ first_not (is_text (view value.now)) }
 {
@@ -198,7 +198,7 @@ fn is_given(value: &Value, link: LinkName) -> bool
     text_of(value, link).is_some()
 }
 
-/// What is wrong with which links a join gives.
+/// Returns what is wrong with the choice of links that a join gives.
 fn missing_fault(value: &Value) -> Option<BodyFault>
     ensures { result ≡ missing_fault (view value.now) }
 {
@@ -216,7 +216,7 @@ fn missing_fault(value: &Value) -> Option<BodyFault>
     }
 }
 
-/// Whether a text is a link, if one is given.
+/// Whether a text is a link, or absent.
 fn is_kept(alloc: Global, text: Option<&str>) -> Result<bool, AllocError>
     ensures { IfOk result (λ is. is ≡ is_some (kept_if_given (option_copied text.entry))) }
 {
@@ -240,7 +240,7 @@ fn is_link(alloc: Global, value: &Value, link: LinkName) -> Result<bool, AllocEr
     is_kept(alloc, text_of(value, link))
 }
 
-/// The first member of a join that is no link.
+/// Returns the first member of a join that is not a link.
 fn no_link(alloc: Global, value: &Value) -> Result<Option<LinkName>, AllocError>
     ensures { IfOk result (λ link. link ≡ first_not (is_link (view value.now))) }
 {
@@ -351,7 +351,7 @@ fn is_absent(form: Form, body: &[u8]) -> bool
     }
 }
 
-/// What is wrong with a body of this form, if anything is.
+/// Returns what is wrong with a body of this form, if anything is.
 #[tactic(auto, unfolding(crate::specs::BodyFaults::why_in_body))]
 fn why_in_body(
     alloc: Global,
@@ -376,7 +376,8 @@ fn why_in_body(
     }
 }
 
-/// The form of the body that an action reads, if it reads one and the ids of the path are right.
+/// Returns the form of the body that an action reads, if it reads one and the ids in the path are
+/// right.
 fn form_at(action: Action, path: &str) -> Option<Form>
     ensures { result ≡ form_at action path.now }
 {
@@ -407,7 +408,8 @@ fn form_of(paths: &Paths, request: &Request) -> Option<Form>
     }
 }
 
-/// What is wrong with the body of a request, if it has one and anything is. Errors: out of memory.
+/// Returns what is wrong with the body of a request, if it has a body and anything is. Errors: out
+/// of memory.
 #[tactic(auto, unfolding(crate::specs::BodyFaults::why_in))]
 pub(crate) fn why_in(
     alloc: Global,

@@ -1,4 +1,4 @@
-// What follows of the definitions alone.
+// Laws that follow from the definitions alone.
 ghost use Rattle.std.specs.Prelude.{◌≡◌, ◌<◌, ◌≤◌, ◌^◌, ◌||◌, ℕ, List, None, Some, is_err, is_some, length, true};
 ghost use Rattle.std.specs.List.{list_all};
 ghost use Rattle.serde_json.specs.Data.{Data};
@@ -17,9 +17,9 @@ ghost use Rattle.lra_api.specs.Routes.{routed};
 ghost use Rattle.lra_api.specs.Texts.{member_body};
 ghost use Rattle.lra_api.specs.Wholes.{IsNumbered, IsWhole};
 
-/// What a client reads of an answer, its status, fields and body, tells it all that was replied: of
-/// which LRA it tells, what that shows, and which member number was given. Of a participant it
-/// tells the LRA and what the participant shows, to one that knows for which number it asked.
+/// The status, fields and body of an answer tell its client everything that was replied: which LRA
+/// it is about, what that shows, and which member number was given. About a participant they tell
+/// the LRA and what the participant shows, to a client that knows which number it asked for.
 pub fn an_answer_tells_its_reply()
     ensures begun { (a b : Id) → IsId a → IsId b → begun_answer a ≡ begun_answer b → a ≡ b }
     ensures joined { (a b : Id) (m n : ℕ) →
@@ -30,9 +30,9 @@ pub fn an_answer_tells_its_reply()
         IsId b → ok_json (member_body a m x) ≡ ok_json (member_body b m y) → (a ≡ b) × (x ≡ y) }
 {}
 
-/// Of a request that reads a body, the body is wrong if it has a member that its call doesn't know, or
-/// if the request is refused, and otherwise not. A member that isn't known is named before all else.
-/// Of a request that reads no body nothing is wrong.
+/// If a request reads a body, the body is wrong exactly if it has a member that its call doesn't
+/// know, or if the request is refused. An unknown member is named before anything else. If a
+/// request reads no body, nothing is wrong.
 pub fn only_what_is_refused_or_unknown_is_wrong()
     ensures exact { (now : ℕ) (request : TheRequest) (form : TheForm) → form_of request ≡ Some form →
         is_some (why_in now request) ≡ (has_unknown form request.body || is_err (routed now request)) }
@@ -42,14 +42,14 @@ pub fn only_what_is_refused_or_unknown_is_wrong()
     ensures none { (now : ℕ) (request : TheRequest) → form_of request ≡ None → why_in now request ≡ None }
 {}
 
-/// What is said of a wrong body stands in the JSON of its answer as it is: printable ASCII without
-/// quotes and backslashes, whatever the client sent.
+/// The text about a wrong body stands unescaped in the JSON of its answer: it is printable ASCII
+/// without quotes and backslashes, whatever the client sent.
 pub fn what_is_said_of_a_body_needs_no_escape()
     ensures { (now : ℕ) (request : TheRequest) (why : List ℕ) →
         why_in now request ≡ Some why → list_all is_plain_byte why ≡ true }
 {}
 
-/// The text of each answer is one whole response with its status, fields and body, for any reader
+/// The text of each answer is one whole response with its status, fields and body, for every reader
 /// whose limit on bodies is at least the body's length, and whatever follows it.
 pub fn an_answer_is_a_whole_response()
     ensures reply { (limit : ℕ) (r : TheReply) (rest : List ℕ) → limit < 2 ^ 64 →

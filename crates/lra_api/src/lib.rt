@@ -1,5 +1,5 @@
-//! The HTTP interface of a node: a request is read, the call that it asks for is made, and its
-//! answer is written.
+//! The HTTP interface of a node: reads a request, makes the call that it asks for, and writes the
+//! answer.
 #![tactic(auto)]
 
 mod answers;

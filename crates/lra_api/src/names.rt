@@ -1,11 +1,11 @@
-// The ids and member numbers in requests.
+// Reads the ids and member numbers in requests.
 ghost use Rattle.std.specs.Prelude.{◌≡◌};
 ghost use Rattle.lra_api.specs.Names.{id_of, member_of};
 
 use lra_forest::MAX_MEMBERS;
 use lra_id::LraId;
 
-/// The id that a text is, in any of the four forms of a UUID.
+/// Returns the id that a text is, in any of the four forms of a UUID.
 pub fn id_of(text: &str) -> Option<LraId>
     ensures { result ≡ id_of text.now }
 {
@@ -15,7 +15,7 @@ pub fn id_of(text: &str) -> Option<LraId>
     }
 }
 
-/// The member number that a text is: 1 to 32 in decimal, without leading zeros.
+/// Returns the member number that a text is: 1 to 32 in decimal, without leading zeros.
 pub fn member_of(text: &str) -> Option<u8>
     ensures { result ≡ member_of text.now }
 {

@@ -1,4 +1,4 @@
-// One request over a connection, from its first byte to the last of its answer.
+// Serves one request over a connection, from its first byte to the last byte of its answer.
 ghost use Rattle.std.specs.Prelude.{◌≡◌, ◌≢◌, Result, None, Some, IfErr, IfOk};
 ghost use Rattle.lra_http.specs.declared.fault.Fault.{Fault as TheFault};
 ghost use Rattle.lra_http.specs.declared.fault.Fault.TheVariants.{WriteFault as OnWrite};
@@ -21,18 +21,18 @@ use std::alloc::{AllocError, Global};
 /// Why a request was not served as it was asked.
 #[derive(Clone, Copy, Debug, PartialEq, Eq)]
 pub enum ServeError {
-    /// The clerk refused the call, E17 to E21; or E17: the memory was refused here, and the clerk
-    /// refused nothing.
+    /// The clerk refused the call, with E17 to E21; or E17 because memory was refused here, and the
+    /// clerk refused nothing.
     Refused(Refusal),
     /// The input ended before the request did.
     Cut,
-    /// A read failed, or 1,024 were interrupted.
+    /// A read failed, or 1,024 reads were interrupted.
     ReadFault,
-    /// A write failed, or 1,024 were interrupted.
+    /// A write failed, or 1,024 writes were interrupted.
     WriteFault,
 }
 
-/// Writes that the memory was refused, if there is enough for that.
+/// Writes that memory was refused, if there is enough memory for that.
 fn write_no_memory<W: Sink>(alloc: Global, writer: &mut W)
     ensures { WritesNoMemory W.Sink writer.old writer.new }
 {
@@ -42,7 +42,7 @@ fn write_no_memory<W: Sink>(alloc: Global, writer: &mut W)
     let _written = write_response(alloc, writer, &response);
 }
 
-/// What is told behind an answer: the clerk's refusal goes before how writing ended.
+/// Returns the result after an answer: the clerk's refusal takes precedence over how writing ended.
 fn told_first(refusal: Option<Refusal>, ended: Result<(), ServeError>) -> Result<(), ServeError>
     ensures { result ≡ told_first refusal ended }
 {
@@ -52,8 +52,8 @@ fn told_first(refusal: Option<Refusal>, ended: Result<(), ServeError>) -> Result
     }
 }
 
-/// Writes that the memory was refused, if there is enough for it, and tells that, or the refusal
-/// behind which it was.
+/// Writes that memory was refused, if there is enough memory for that. Returns that error, or the
+/// refusal that the answer was for.
 fn end_no_memory<W: Sink>(
     alloc: Global,
     writer: &mut W,
@@ -84,8 +84,8 @@ fn end_with<W: Sink>(
     }
 }
 
-/// Writes an answer, if there was memory to make it, and tells the refusal behind it, if there is
-/// one.
+/// Writes an answer, if there was memory to make it, and returns the refusal that it is for, if
+/// any.
 pub fn end<W: Sink>(
     alloc: Global,
     writer: &mut W,
@@ -103,7 +103,7 @@ pub fn end<W: Sink>(
     }
 }
 
-/// Writes the answer to a call that the clerk refused, and tells the refusal.
+/// Writes the answer to a call that the clerk refused, and returns the refusal.
 pub fn end_refused<W: Sink>(
     alloc: Global,
     writer: &mut W,
@@ -181,7 +181,7 @@ fn end_wrong<W: Sink>(alloc: Global, writer: &mut W, why: &str) -> Result<(), Se
     end(alloc, writer, made, None)
 }
 
-/// Serves a request as `serve_request` does, unless something is wrong with its body: then no call is
+/// Serves a request like `serve_request`, unless something is wrong with its body: then no call is
 /// made, and the answer says why. A JSON member that the call doesn't know is wrong too.
 pub fn serve_or_explain<W: Sink, C: Clerk>(
     alloc: Global,
@@ -208,7 +208,7 @@ fn end_fault<W: Sink>(alloc: Global, writer: &mut W, fault: Fault) -> Result<(),
     end(alloc, writer, made, None)
 }
 
-/// Answers what was no whole request, where an answer can be written.
+/// Answers input that was not a whole request, if an answer can be written.
 pub fn serve_fault<W: Sink>(alloc: Global, writer: &mut W, fault: Fault) -> Result<(), ServeError>
     requires { fault ≢ OnWrite }
     ensures { ServesFault W.Sink writer.old writer.new fault result }
@@ -227,10 +227,10 @@ pub fn serve_fault<W: Sink>(alloc: Global, writer: &mut W, fault: Fault) -> Resu
 }
 
 /// Reads one request, makes the call that it asks for by the table of paths, and writes one answer.
-/// Errors: the clerk's own refusals, E17 to E21, which are written too and go before a fault of
-/// writing; `Cut` and `ReadFault`, behind which nothing is written; `WriteFault`, before which a
-/// prefix of the answer was; and E17 where the memory is refused here and the clerk refused
-/// nothing: a call that was made then stands.
+/// Errors: the clerk's own refusals, E17 to E21, which are also written and take precedence over a
+/// fault of writing; `Cut` and `ReadFault`, after which nothing is written; `WriteFault`, before
+/// which a prefix of the answer was written; and E17 if memory is refused here and the clerk
+/// refused nothing. In that last case a call that was made stands.
 pub fn serve_one<R: Source, W: Sink, C: Clerk>(
     alloc: Global,
     paths: &Paths,
@@ -239,9 +239,9 @@ pub fn serve_one<R: Source, W: Sink, C: Clerk>(
     clerk: &mut C,
     now: u64,
 ) -> Result<(), ServeError>
-    // What was read is a whole request, or its fault. Of a request that asks for a call, that call
-    // is made at this moment, once, and the text of the answer to its reply or refusal is written;
-    // else none is made, and the text of the answer to what is wrong is written.
+    // What was read is a whole request, or its fault. If the request asks for a call, that call is
+    // made at this moment, once, and the text of the answer to its reply or refusal is written.
+    // Otherwise no call is made, and the text of the answer to what is wrong is written.
     ensures served { (read : Result TheRequest TheFault)
         × IsReading R.Source reader.old reader.new read × Serves (clerk.new ≡ clerk.old)
         (Makes C.Clerk clerk.old clerk.new now) W.Sink writer.old writer.new now read result }

@@ -1,4 +1,5 @@
-// The bodies of answers. JSON goes out as text in pieces, since nothing in it needs an escape.
+// Writes the bodies of answers. JSON is written as text in pieces, because nothing in it needs an
+// escape.
 ghost use Rattle.std.specs.Prelude.{◌≡◌, ◌++◌, IfOk, OnOk};
 ghost use Rattle.std.specs.Fmt.{decimal};
 ghost use Rattle.lra_id.specs.Ids.{text_of};
@@ -47,7 +48,7 @@ fn push_status(body: &mut Vec<u8>, id: LraId, status: LraStatus) -> Result<(), A
     push_name(body, status.name())
 }
 
-/// The body that tells what an LRA shows.
+/// Makes the body that says what an LRA shows.
 pub fn status_body(alloc: Global, id: LraId, status: LraStatus) -> Result<Vec<u8>, AllocError>
     ensures { IfOk result (λ body. body.items ≡ status_body id status) }
 {
@@ -63,7 +64,7 @@ fn push_number(alloc: Global, body: &mut Vec<u8>, number: u8) -> Result<(), Allo
     push(body, digits.as_str())
 }
 
-/// The body that tells what a participant shows.
+/// Makes the body that says what a participant shows.
 #[tactic(auto, unfolding(crate::specs::Texts::member_body))]
 pub fn member_body(
     alloc: Global,
@@ -91,7 +92,7 @@ fn push_recovery(alloc: Global, body: &mut Vec<u8>, id: LraId, member: u8) -> Re
     push_number(alloc, body, member)
 }
 
-/// Where the coordinator tells of a participant.
+/// Makes the path at which the coordinator describes a participant.
 pub fn recovery_path(alloc: Global, id: LraId, member: u8) -> Result<Vec<u8>, AllocError>
     ensures { IfOk result (λ path. path.items ≡ recovery_path id member) }
 {
@@ -100,7 +101,7 @@ pub fn recovery_path(alloc: Global, id: LraId, member: u8) -> Result<Vec<u8>, Al
     Ok(path)
 }
 
-/// The body that tells a participant its number.
+/// Makes the body that gives a participant its number.
 #[tactic(auto, unfolding(crate::specs::Texts::join_body))]
 pub fn join_body(alloc: Global, id: LraId, member: u8) -> Result<Vec<u8>, AllocError>
     ensures { IfOk result (λ body. body.items ≡ spec.join_body id member) }
@@ -114,7 +115,7 @@ pub fn join_body(alloc: Global, id: LraId, member: u8) -> Result<Vec<u8>, AllocE
     Ok(body)
 }
 
-/// An LRA as a URN.
+/// Makes the URN of an LRA.
 #[tactic(auto, unfolding(crate::specs::Texts::urn))]
 pub fn urn(alloc: Global, id: LraId) -> Result<Vec<u8>, AllocError>
     ensures { IfOk result (λ text. text.items ≡ urn id) }
@@ -172,7 +173,7 @@ fn push_next(body: &mut Vec<u8>, next: Option<LraId>) -> Result<(), AllocError>
     }
 }
 
-/// The body that lists a page.
+/// Makes the body that lists a page.
 #[tactic(auto, unfolding(crate::specs::Texts::page_body))]
 pub fn page_body(alloc: Global, page: &Page) -> Result<Vec<u8>, AllocError>
     ensures { IfOk result (λ body. body.items ≡ page_body page.now) }
@@ -186,7 +187,7 @@ pub fn page_body(alloc: Global, page: &Page) -> Result<Vec<u8>, AllocError>
     Ok(body)
 }
 
-/// The body that names a refusal.
+/// Makes the body that names a refusal.
 #[tactic(auto, unfolding(crate::specs::Texts::refusal_body))]
 pub fn refusal_body(alloc: Global, text: &str) -> Result<Vec<u8>, AllocError>
     ensures { IfOk result (λ body. body.items ≡ refusal_body text.now) }
@@ -198,7 +199,7 @@ pub fn refusal_body(alloc: Global, text: &str) -> Result<Vec<u8>, AllocError>
     Ok(body)
 }
 
-/// The body that names E1, and says why a body is refused.
+/// Makes the body that names E1, and says why a request's body is refused.
 #[tactic(auto, unfolding(crate::specs::Texts::why_body))]
 pub fn why_body(alloc: Global, why: &str) -> Result<Vec<u8>, AllocError>
     ensures { IfOk result (λ body. body.items ≡ why_body why.now) }
