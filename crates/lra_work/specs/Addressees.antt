@@ -38,14 +38,14 @@ group_in text = if bytes_eq (take 6 text) (codes "group=") then if_group (drop 6
 abbrev pub is_other_number : ℕ → List ℕ → Bool
 is_other_number me number = not (bytes_eq number (decimal me))
 
--- a group with a name is another than each with another name, and than each without one
+-- a group with a name differs from each with another name, and from each without one
 abbrev pub is_other_group : (own group : Option (List ℕ)) → Bool
 is_other_group (Some own) (Some group) = not (bytes_eq own group)
 is_other_group (Some own) None = true
 is_other_group None (Some group) = true
 is_other_group None None = false
 
--- a node whose group has a name is meant only by who gives that too
+-- a node whose group has a name is meant only by a pull that gives that name too
 abbrev pub are_other : NodeName → (number group : Option (List ℕ)) → Bool
 are_other node (Some number) group = is_other_number node.me number || is_other_group node.group group
 are_other node None group = is_some node.group
@@ -53,14 +53,14 @@ are_other node None group = is_some node.group
 abbrev pub is_ampersand : ℕ → Bool
 is_ampersand b = b == 38
 
--- of `to=N` and `to=N&group=G`; nothing else names a node
+-- in `to=N` and `to=N&group=G`; nothing else names a node
 abbrev pub names_other : NodeName → (query : List ℕ) → Bool
 names_other node query =
     if nat_lt (position_or_len is_ampersand query) (length query)
     then are_other node (number_in (before_first is_ampersand query)) (group_in (after_first is_ampersand query))
     else are_other node (number_in query) None
 
--- behind who asks, or waits, where a query begins with that; what comes behind the first `&`
+-- the part behind who asks, or waits, if a query begins with that; what comes behind the first `&`
 abbrev pub behind_first : (query : List ℕ) → List ℕ
 behind_first query = if nat_lt (position_or_len is_ampersand query) (length query) then after_first is_ampersand query else query
 
@@ -71,7 +71,7 @@ abbrev pub asks_other : NodeName → (query : Option (List ℕ)) → Bool
 asks_other node (Some query) = names_other node (past_asker query)
 asks_other node None = is_some node.group
 
--- whether a pull with a query is meant for who is asked so
+-- whether a pull with a query is meant for this addressee
 abbrev pub is_meant : Addressee → (query : List ℕ) → Bool
 is_meant Anyone query = true
 is_meant (Node node) query = not (asks_other node (Some query))
@@ -81,7 +81,7 @@ is_meant (Node node) query = not (asks_other node (Some query))
 abbrev pub is_pull : Request → Bool
 is_pull request = bytes_eq request.method (codes "POST") && bytes_eq (path_of request.target) (codes "/peer/pull")
 
--- a pull that names another node or group, or names no group where the node's has a name
+-- a pull that names another node or group, or names no group if the node's has a name
 abbrev pub is_misdirected : NodeName → Request → Bool
 is_misdirected node request = is_pull request && asks_other node (query_of request.target)
 
@@ -98,12 +98,13 @@ node_text node = text_by node.me node.group
 abbrev pub misdirected_answer : NodeName → Response
 misdirected_answer node = error_answer 421 [] (node_text node)
 
--- how the query begins of one that waits until there is something new, and of one that doesn't
+-- the beginning of the query of a pull that waits until there is something new, and of one that
+-- doesn't
 abbrev pub opening_of : (waits : Bool) → List ℕ
 opening_of true = codes "?wait="
 opening_of false = codes "?from="
 
--- the query of a pull by a node that is meant for another, and for a group where there is one
+-- the query of a pull from one node to another, and to its group if there is one
 abbrev pub query_by : (waits : Bool) → (from to : ℕ) → (group : Option (List ℕ)) → List ℕ
 query_by waits from to (Some group) = opening_of waits ++ (decimal from ++ (codes "&to=" ++ (decimal to ++ (codes "&group=" ++ group))))
 query_by waits from to None = opening_of waits ++ (decimal from ++ (codes "&to=" ++ decimal to))

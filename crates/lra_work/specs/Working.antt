@@ -1,4 +1,5 @@
--- What a worker does: it serves connection after connection, up to the end of the arrivals or to a refusal that ends the run.
+-- What a worker does: it serves connection after connection, until the arrivals end or a refusal
+-- ends the run.
 use Rattle.std.specs.Prelude.{◌≡◌, ⊤, ℕ, List, [], ◌∷◌, MatchBool, Option, Some, None, Result, Ok, Err}
 use Rattle.lra_facts.specs.declared.refusal.Refusal.{Refusal}
 use Rattle.lra_facts.specs.declared.refusal.Refusal.TheVariants.{JournalFailed, Stopped, RunFull, TrailLost}
@@ -29,33 +30,35 @@ ending_by RunFull = Some RunFull
 ending_by (TrailLost number) = Some (TrailLost number)
 ending_by _ = None
 
--- the refusal that ends the run, where one did
+-- the refusal that ends the run, if there was one
 abbrev pub ending_of : Result ⊤ ServeError → Option Refusal
 ending_of (Err (Refused refusal)) = ending_by refusal
 ending_of _ = None
 
--- Serving. `same`: no call is made. `makes`: this call is made, once, and this comes of it
+-- Serving. `same`: no call is made. `makes`: this call is made, once, with this result
 
--- A request is served by a node with a name: of a pull that is meant for another no call is made, and the text of that answer is
--- written; each other request is served by the interface, unless something is wrong with its body
+-- A request is served by a node with a name: for a pull that is meant for another node no call is
+-- made, and the text of that answer is written; each other request is served by the interface,
+-- unless something is wrong with its body
 abbrev pub ServesNamed : {W : Type 0} → NodeName → (same : Type 0) → (makes : Call → Result Reply Refusal → Type 0) → OfSink W → (old new : W) → (now : ℕ) → Request → Result ⊤ ServeError → Type 0
 ServesNamed node same makes sink old new now request result =
     MatchBool (is_misdirected node request)
     (same × serving.Ends sink old new (misdirected_answer node) None result)
     (serving.ServesOrExplains same makes sink old new now request result)
 
--- where anyone may be meant, the interface serves all
+-- if any node may be meant, the interface serves everything
 abbrev pub ServesRequest : {W : Type 0} → Addressee → (same : Type 0) → (makes : Call → Result Reply Refusal → Type 0) → OfSink W → (old new : W) → (now : ℕ) → Request → Result ⊤ ServeError → Type 0
 ServesRequest Anyone same makes sink old new now request result = serving.ServesRequest same makes sink old new (routed now request) result
 ServesRequest (Node node) same makes sink old new now request result = ServesNamed node same makes sink old new now request result
 
--- what was read is served: a request so, and a fault by the interface
+-- what was read is served: a request in this way, and a fault by the interface
 abbrev pub ServesRead : {W : Type 0} → Addressee → (same : Type 0) → (makes : Call → Result Reply Refusal → Type 0) → OfSink W → (old new : W) → (now : ℕ) → Result Request Fault → Result ⊤ ServeError → Type 0
 ServesRead addressee same makes sink old new now (Ok request) result = ServesRequest addressee same makes sink old new now request result
 ServesRead addressee same makes sink old new now (Err f) result = same × serving.ServesFault sink old new f result
 
--- One connection is served, with this ending: one request is read, the call that it asks for is made at the connection's moment,
--- once, unless it is misdirected or its body is wrong, and one answer is written
+-- One connection is served, with this ending: one request is read, the call that it asks for is
+-- made at the connection's moment, once, unless it is misdirected or its body is wrong, and one
+-- answer is written
 abbrev pub Serves : {R W C : Type 0} → Addressee → OfSource R → OfSink W → OfClerk C → Connection R W → (old new : C) → Option Refusal → Type 0
 Serves {R} {W} addressee source sink clerk c old new ending =
     (reader : R) × (writer : W) × (read : Result Request Fault) × (result : Result ⊤ ServeError)
@@ -63,7 +66,7 @@ Serves {R} {W} addressee source sink clerk c old new ending =
     × ServesRead addressee (new ≡ old) (Makes clerk old new c.now) sink c.writer writer c.now read result
     × (ending ≡ ending_of result)
 
--- each of the connections was given and served, in order, and none of them ended the run
+-- each of the connections was given and served, in order, and none ended the run
 abbrev pub ServesEach : {A R W C : Type 0} → Addressee → (A → Option (Connection R W) → A → Type 0) → OfSource R → OfSink W → OfClerk C → A → C → List (Connection R W) → A → C → Type 0
 ServesEach addressee gives source sink clerk a old [] b new = (b ≡ a) × (new ≡ old)
 ServesEach addressee gives source sink clerk a old (c ∷ cs) b new =

@@ -1,4 +1,4 @@
-// As whom a node is asked.
+// Which node a request is addressed to.
 ghost use Rattle.std.specs.Prelude.{◌≡◌, IfOk, None, Some, string_bytes};
 ghost use Rattle.std.specs.Option.{option_copied};
 ghost use Rattle.lra_work.specs.Addressees.{is_meant, node_text, query_by};
@@ -9,31 +9,32 @@ use crate::misdirected::asks_other;
 use lra_id::NodeId;
 use std::alloc::{AllocError, Global};
 
-/// A node's number, and the name of its group if it has one.
+/// A node's number, and the name of its group if that has one.
 #[derive(Drop)]
 pub struct NodeName {
     pub me: NodeId,
     pub group: Option<GroupName>,
 }
 
-/// As whom a node is asked. One that has a name refuses the pulls that are meant for another.
+/// The name by which a node is asked. A node that has a name refuses pulls that are meant for
+/// another.
 #[derive(Drop)]
 pub enum Addressee {
-    /// Whoever is meant: nothing is refused.
+    /// Any node may be meant: nothing is refused.
     Anyone,
-    /// This node alone.
+    /// Only this node.
     Node(NodeName),
 }
 
 impl Addressee {
-    /// Refuses nothing.
+    /// Makes an addressee that refuses nothing.
     pub fn anyone() -> Addressee
         ensures { result ≡ Nobody }
     {
         Addressee::Anyone
     }
 
-    /// Whether a pull with this query is meant for it.
+    /// Whether a pull with this query is meant for this addressee.
     pub fn is_meant(&self, query: &str) -> bool
         ensures { result ≡ is_meant self.now query.now }
     {
@@ -43,8 +44,8 @@ impl Addressee {
         }
     }
 
-    /// Refuses pulls that name another node or another group. If this node's group has a name, it also
-    /// refuses pulls that name none.
+    /// Makes an addressee that refuses pulls that name another node or another group. If this
+    /// node's group has a name, it also refuses pulls that name none.
     pub fn of(me: NodeId, group: Option<GroupName>) -> Addressee
         ensures { result ≡ OneNode (record { me = me; group = group }) }
     {
@@ -52,7 +53,7 @@ impl Addressee {
     }
 }
 
-/// The text that tells which node this is.
+/// Makes the text that says which node this is.
 pub(crate) fn node_text(alloc: Global, node: &NodeName) -> Result<String, AllocError>
     ensures { IfOk result (λ text. string_bytes text ≡ node_text node.now) }
 {
@@ -66,9 +67,9 @@ pub(crate) fn node_text(alloc: Global, node: &NodeName) -> Result<String, AllocE
     }
 }
 
-/// The query of a pull by a node that is meant for another, and for a group where there is one:
-/// `?from=3&to=2` or `?from=3&to=2&group=shop`. Who waits until the other has something new writes
-/// `wait` for `from`. Errors: out of memory.
+/// Makes the query of a pull from one node to another, and to its group if there is one:
+/// `?from=3&to=2` or `?from=3&to=2&group=shop`. A pull that waits until the other node has
+/// something new has `wait` in place of `from`. Errors: out of memory.
 pub fn query_by(
     alloc: Global,
     waits: bool,

@@ -1,4 +1,4 @@
-// Connections that come, one at a time.
+// Connections that arrive, one at a time.
 
 use lra_http::{Sink, Source};
 
@@ -20,10 +20,10 @@ pub trait Arrivals {
 
     type Writer: Sink + Drop;
 
-    /// What is given, and the arrivals before and after it, as far as they are known.
+    /// What a call gives, and the arrivals before and after it, as far as they are known.
     ghost gives: { Self → Option (TheConnection Self.Reader Self.Writer) → Self → Type 0 };
 
-    /// The next connection, or none at the end. It may wait.
+    /// Returns the next connection, or `None` at the end. It may wait.
     fn next(&mut self) -> Option<Connection<Self::Reader, Self::Writer>>
         ensures { gives self.old result self.new };
 }

@@ -1,4 +1,4 @@
-// A worker's clerk, which asks the gate.
+// A worker's clerk that asks the gate.
 
 use crate::Gate;
 use lra_book::{Call, Clerk, Reply};

@@ -46,7 +46,7 @@ impl Model for GroupName {
 }
 
 impl GroupName {
-    /// This name, if it is one.
+    /// Returns this name, if it may name a group.
     pub fn new(text: String) -> Option<GroupName>
         ensures { MatchOption result (IsFalse (is_group_name (string_bytes text)))
             (λ name. name ≡ string_bytes text) }
@@ -57,7 +57,7 @@ impl GroupName {
         Some(GroupName { text })
     }
 
-    /// This name as a `str`.
+    /// Returns the name as a `str`.
     pub fn as_str(&self) -> &str
         ensures value { result.now ≡ self.now }
         ensures name { IsTrue (is_group_name self.now) }

@@ -8,10 +8,10 @@ ghost use Rattle.lra_api.specs.Paths.{query_of};
 ghost use Rattle.lra_work.specs.Groups.{is_group_name};
 ghost use Rattle.lra_work.specs.declared.addressee.NodeName.{NodeName as TheName};
 
-/// A pull by a node that is meant for another, and for a group or none, is misdirected exactly at the nodes
-/// with other numbers and at those of other groups, whether it waits or not: a group with a name is
-/// another than one without. Its query may stand in a pull. A pull that says nothing of whom it means
-/// is misdirected at each node whose group has a name.
+/// A pull from one node to another, and to a group or none, is misdirected exactly at the nodes
+/// with other numbers and at those of other groups, whether it waits or not. A group with a name
+/// differs from one without. The query of such a pull may stand in a pull. A pull that doesn't say
+/// whom it means is misdirected at each node whose group has a name.
 pub fn a_pull_to_another_node_is_misdirected()
     ensures exact { (node : TheName) (waits : Bool) (from to : ℕ) (group : Option (List ℕ)) (request : TheRequest) →
         IsNodeNumber node.me → IsNodeNumber from → IsNodeNumber to → IfSome group (λ name. IsTrue (is_group_name name)) →

@@ -1,5 +1,5 @@
-//! What a worker of the server does: it serves connection after connection, over any connections,
-//! any clerk and any gate.
+//! The worker of the server: it serves connection after connection, over any connections, any clerk
+//! and any gate.
 #![tactic(auto)]
 
 mod addressee;

@@ -1,4 +1,4 @@
-// Which pulls are meant for another node than the one that reads them.
+// Recognizes pulls that are meant for another node than the one that reads them.
 ghost use Rattle.std.specs.Prelude.{◌≡◌, Some};
 ghost use Rattle.std.specs.Char.{is_ascii_digit};
 ghost use Rattle.std.specs.List.{list_all};
@@ -31,7 +31,7 @@ fn is_number(text: &str) -> bool
     }
 }
 
-/// The number behind `to=`.
+/// Returns the number behind `to=`.
 fn number_in(text: &str) -> Option<&str>
     ensures { option_copied result ≡ number_in text.now }
 {
@@ -45,7 +45,7 @@ fn number_in(text: &str) -> Option<&str>
     }
 }
 
-/// The name behind `group=`.
+/// Returns the name behind `group=`.
 fn group_in(text: &str) -> Option<&str>
     ensures { option_copied result ≡ group_in text.now }
 {
@@ -67,7 +67,8 @@ fn is_other_number(me: NodeId, number: &str) -> bool
     number.as_bytes() != own.as_slice()
 }
 
-/// Whether this is another group than the node's: each that has a name is, unless it is the node's.
+/// Whether this is another group than the node's own: each group with a name is, unless it has the
+/// name of the node's own.
 fn is_another(own: &Option<GroupName>, group: &str) -> bool
     ensures { result ≡ is_other_group own.now (Some group.now) }
 {
@@ -77,7 +78,7 @@ fn is_another(own: &Option<GroupName>, group: &str) -> bool
     }
 }
 
-/// Whether who names this group, or none, means another than the node's.
+/// Whether a pull that names this group, or none, means another group than the node's.
 fn is_other_group(own: &Option<GroupName>, group: Option<&str>) -> bool
     ensures { result ≡ is_other_group own.now (option_copied group.entry) }
 {
@@ -106,7 +107,7 @@ fn names_other(node: &NodeName, query: &str) -> bool
     }
 }
 
-/// What comes behind the first `&` of a query.
+/// Returns what comes behind the first `&` of a query.
 fn behind_first(query: &str) -> &str
     ensures { result.now ≡ behind_first query.now }
 {
@@ -116,7 +117,7 @@ fn behind_first(query: &str) -> &str
     }
 }
 
-/// What a query says behind who asks, where it begins with that.
+/// Returns what a query says behind the part that says who asks, if it begins with that part.
 fn past_asker(query: &str) -> &str
     ensures { result.now ≡ past_asker query.now }
 {

@@ -1,4 +1,4 @@
-// One request over a connection, where it may be meant for another node.
+// Serves one request over a connection, which may be meant for another node.
 ghost use Rattle.std.specs.Prelude.{◌≡◌, IfOk, None, Result};
 ghost use Rattle.lra_http.specs.declared.fault.Fault.{Fault as TheFault};
 ghost use Rattle.lra_http.specs.declared.message.Request.{Request as TheRequest};
@@ -19,7 +19,7 @@ use lra_book::Clerk;
 use lra_http::{MAX_BODY_BYTES, Request, Sink, Source, read_request};
 use std::alloc::{AllocError, Global};
 
-/// The body that names a refusal.
+/// Makes the body that names a refusal.
 #[tactic(auto, unfolding(lra_api::specs::Texts::refusal_body))]
 fn refusal_body(alloc: Global, text: &str) -> Result<Vec<u8>, AllocError>
     ensures { IfOk result (λ body. body.items ≡ refused_body text.now) }
@@ -28,7 +28,7 @@ fn refusal_body(alloc: Global, text: &str) -> Result<Vec<u8>, AllocError>
     Ok(body.into_bytes())
 }
 
-/// The answer to a pull that is meant for another node.
+/// Makes the answer to a pull that is meant for another node.
 fn misdirected_answer<'a>(alloc: Global, node: &NodeName) -> Result<Answer<'a>, AllocError>
     ensures { IfOk result (λ response. response ≡ misdirected_answer node.now) }
 {
@@ -50,8 +50,8 @@ fn end_misdirected<W: Sink>(
     end(alloc, writer, made, None)
 }
 
-/// Serves a request by a node that has a name: it refuses the pulls that are meant for another, and
-/// says what is wrong with a body.
+/// Serves a request to a node that has a name: it refuses pulls that are meant for another node,
+/// and says what is wrong with a body.
 fn serve_named<W: Sink, C: Clerk>(
     alloc: Global,
     paths: &Paths,
@@ -88,9 +88,9 @@ fn serve_by<W: Sink, C: Clerk>(
     }
 }
 
-/// Reads one request and writes one answer, as `lra_api::serve_one`. A node that has a name makes no
-/// call for a pull that is meant for another node, and writes status 421. Nor does it for a request
-/// whose body is wrong, and writes status 400 and why.
+/// Reads one request and writes one answer, like `lra_api::serve_one`. A node that has a name makes
+/// no call for a pull that is meant for another node, and answers with status 421. Neither does it
+/// make a call for a request whose body is wrong: it answers with status 400 and says why.
 pub(crate) fn serve_one<R: Source, W: Sink, C: Clerk>(
     alloc: Global,
     paths: &Paths,

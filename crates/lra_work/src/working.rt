@@ -1,4 +1,4 @@
-// A worker: it serves one connection after another.
+// A worker: serves one connection after another.
 ghost use Rattle.std.specs.Prelude.{◌≡◌};
 ghost use Rattle.lra_work.specs.Working.{Serves, Works, ending_by, ending_of};
 
@@ -12,7 +12,7 @@ use lra_http::{Sink, Source};
 use std::alloc::Global;
 use std::sync::Wait;
 
-/// A refusal, if it ends the run in which it came: E18 to E21.
+/// Returns a refusal if it ends the run in which it came: E18 to E21.
 pub fn ending_by(refusal: Refusal) -> Option<Refusal>
     ensures { result ≡ ending_by refusal }
 {
@@ -34,7 +34,7 @@ fn ending_of(outcome: Result<(), ServeError>) -> Option<Refusal>
     }
 }
 
-/// Serves one connection, and closes it. It tells the refusal that ends the run, where one did.
+/// Serves one connection, and closes it. Returns the refusal that ends the run, if there was one.
 fn serve<S: Source + Drop, W: Sink + Drop, C: Clerk>(
     alloc: Global,
     paths: &Paths,
@@ -60,11 +60,11 @@ fn serve<S: Source + Drop, W: Sink + Drop, C: Clerk>(
     ))
 }
 
-/// Serves each connection that `next` gives, in order, up to none or to the first refusal that ends
-/// the run, E18 to E21. It gives the clerk back, and that refusal. The gate is asked before and
-/// after each of the clerk's calls. A pull that is meant for another node than the addressee is
-/// refused with status 421, and no call is made for it. Nor is one made for a request whose body is
-/// wrong, if the addressee is one node: it is refused with status 400, and the answer says why.
+/// Serves each connection that `next` returns, in order, until it returns `None` or a refusal ends
+/// the run, E18 to E21. Returns the clerk, and that refusal. The gate is asked before and after
+/// each of the clerk's calls. A pull that is meant for another node than the addressee is refused
+/// with status 421, and no call is made for it. If the addressee is one node, a request whose body
+/// is wrong is refused with status 400, no call is made for it either, and the answer says why.
 pub fn work<A: Arrivals, C: Clerk + Drop, G: Gate, R: Wait>(
     rt: &R,
     alloc: Global,
