@@ -8,7 +8,7 @@ use Rattle.lra_http.specs.ByteResponses.{Response}
 use Rattle.lra_http.specs.HeadFields.{field_bytes, first_value}
 use Rattle.lra_http.specs.declared.message.Field.{Field}
 
--- whether two texts are one, in whichever case
+-- whether two texts are equal, ignoring case
 abbrev pub is_same : List ℕ → List ℕ → Bool
 is_same one other = bytes_eq (map to_ascii_lowercase one) (map to_ascii_lowercase other)
 
@@ -23,7 +23,7 @@ up_to None host = host
 abbrev pub host_part : List ℕ → List ℕ
 host_part host = up_to (position_from is_colon 0 host) host
 
--- an address is in brackets, or has digits and points alone before its port
+-- an address is in brackets, or has only digits and dots before its port
 abbrev pub is_other_byte : ℕ → Bool
 is_other_byte byte = not (byte == 46) && not (is_ascii_digit byte)
 
@@ -40,8 +40,8 @@ is_named names part = list_any (is_same part) names
 abbrev pub is_own_host : List (List ℕ) → List ℕ → Bool
 is_own_host names host = is_address host || (is_same (host_part host) (codes "localhost") || is_named names (host_part host))
 
--- an origin is a page of the host that was asked for, or of one of the node's names, at whatever port: a proxy may ask for another host than
--- the page's
+-- an origin is a page of the host that was asked for, or of one of the node's names, at any port: a
+-- proxy may ask for another host than the page's
 abbrev pub is_page_of : List (List ℕ) → (host page : List ℕ) → Bool
 is_page_of names host page = is_same page host || is_named names (host_part page)
 
@@ -66,12 +66,12 @@ is_foreign_origin names (Some host) (Some origin) = not (is_own_origin names hos
 abbrev pub value_in : List ℕ → List Field → Option (List ℕ)
 value_in name fields = first_value name (map field_bytes fields)
 
--- it is the coordinator's own call to a link, of an LRA or of its end
+-- the request is the coordinator's own call to a link of a participant, in an LRA or at its end
 abbrev pub is_of_a_call : List Field → Bool
 is_of_a_call fields = is_some (value_in (codes "Long-Running-Action") fields) || is_some (value_in (codes "Long-Running-Action-Ended") fields)
 
--- a request is none of an operator's, nor of the operators' page: it is the coordinator's own call to a link, is for another host, or
--- comes from a page of another host
+-- a request comes neither from an operator nor from the operators' page: it is the coordinator's
+-- own call to a link, is for another host, or comes from a page of another host
 abbrev pub is_foreign : List (List ℕ) → List Field → Bool
 is_foreign names fields =
     is_of_a_call fields

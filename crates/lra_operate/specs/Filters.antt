@@ -32,7 +32,7 @@ status_at text = if bytes_eq (take 7 text) (codes "status=") then status_named (
 abbrev pub filter_of : Option Id → Option LraStatus → Bool → Filter
 filter_of after_ shown roots = record { after = after_; status = shown; is_of_roots = roots }
 
--- one of both
+-- one of the two
 abbrev pub one_by : Option Id → Option LraStatus → Bool → Option Filter
 one_by (Some id) shown roots = Some (filter_of (Some id) None roots)
 one_by None (Some shown) roots = Some (filter_of None (Some shown) roots)
@@ -59,12 +59,12 @@ filter_by query roots =
     then both_of (before_first is_ampersand query) (after_first is_ampersand query) roots
     else one_of query roots
 
--- what a query asks for: all, `after=ID`, `status=S`, or both, parted by `&`, in this order
+-- what a query asks for: all, `after=ID`, `status=S`, or both, separated by `&`, in this order
 abbrev pub filter_in : Option (List ℕ) → Bool → Option Filter
 filter_in (Some query) roots = filter_by query roots
 filter_in None roots = Some (filter_of None None roots)
 
--- it has the status that is asked for, if one is, and is a root where those alone are
+-- it has the status that is asked for, if one is, and is a root if only roots are asked for
 abbrev pub has_status : Option LraStatus → LraStatus → Bool
 has_status (Some s) shown = of_statuses.ghosts.eq s shown
 has_status None shown = true

@@ -3,7 +3,7 @@ use Rattle.std.specs.Prelude.{◌==◌, ◌||◌, ℕ, Bool, true, false, List, 
 use Rattle.std.specs.Fmt.{decimal}
 use Rattle.lra_id.specs.Ids.{Id, text_of}
 
--- "TEXT", of a text that has nothing to be escaped
+-- "TEXT", for a text in which nothing must be escaped
 unfoldable pub word : List ℕ → List ℕ
 word text = codes "\"" ++ (text ++ codes "\"")
 
@@ -21,7 +21,7 @@ opened name value = opening name ++ value
 unfoldable pub named : (name value : List ℕ) → List ℕ
 named name value = key name ++ value
 
--- it, or null
+-- the name, or null
 abbrev pub name_or_null : Option (List ℕ) → List ℕ
 name_or_null (Some name) = word name
 name_or_null None = codes "null"
@@ -38,7 +38,7 @@ abbrev pub truth : Bool → List ℕ
 truth true = codes "true"
 truth false = codes "false"
 
--- a quote, and a backslash, stand behind a backslash
+-- a quote or a backslash follows a backslash
 abbrev pub escaped : ℕ → List ℕ
 escaped b = if (b == 34) || (b == 92) then 92 ∷ b ∷ [] else b ∷ []
 

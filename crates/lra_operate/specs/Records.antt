@@ -1,4 +1,4 @@
--- All that is held of an LRA, as JSON.
+-- Everything that is held of an LRA, as JSON.
 use Rattle.std.specs.Prelude.{◌+◌, ℕ, zero, suc, List, [], ◌++◌, codes, Option, Some, None, if◌then◌else◌, nat_eq, option_map, option_and_then, slice_get}
 use Rattle.std.specs.Fmt.{decimal}
 use Rattle.lra_id.specs.Ids.{Id, is_fact_number, text_of}
@@ -18,7 +18,7 @@ use Rattle.lra_facts.specs.declared.command.CommandReply.TheVariants.{Refused}
 use Rattle.lra_book.specs.declared.holdings.Holding.{Holding}
 use Rattle.lra_operate.specs.Json.{id_or_null, key, name_or_null, named, number_or_null, opened, quoted, truth, word}
 
--- the LRA of this number at the home of another
+-- the LRA with this number at the home of another
 abbrev pub nested_at : Id → ℕ → Option Id
 nested_at id n = if is_fact_number n then Some (record { home = id.home; num = n }) else None
 
@@ -95,13 +95,13 @@ abbrev pub rows_to : Holding → ℕ → List ℕ
 rows_to h zero = []
 rows_to h (suc n) = rows_to h n ++ row_at h n
 
--- all places that have one
+-- all places that have a member
 unfoldable pub rows_text : Holding → List ℕ
 rows_text h = rows_to h MAX_MEMBERS
 
 -- The whole
 
--- what a purge would be answered: "due", or the refusal
+-- how a purge would be answered: "due", or the refusal
 abbrev pub purge_text : CommandReply → List ℕ
 purge_text (Refused refusal) = word (refusal_text refusal)
 purge_text _ = word (codes "due")

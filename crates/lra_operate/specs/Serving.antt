@@ -1,4 +1,4 @@
--- What one request at an operator's port comes to.
+-- What serving one request at an operator's port results in.
 use Rattle.std.specs.Prelude.{◌≡◌, ◌⊎◌, ⊤, ℕ, true, false, List, [], ◌∷◌, ◌++◌, codes, Option, Some, None, MatchBool, Result, Ok, Err}
 use Rattle.lra_facts.specs.declared.refusal.Refusal.{Refusal}
 use Rattle.lra_facts.specs.declared.refusal.Refusal.TheVariants.{BadText}
@@ -28,7 +28,7 @@ use Rattle.lra_operate.specs.declared.wanted.Topic.TheVariants.{Page, Health, Re
 use Rattle.lra_operate.specs.declared.wanted.Wanted.{Wanted}
 use Rattle.lra_operate.specs.declared.wanted.Wanted.TheVariants.{Tell, List as AskList, Record, Forgot, Told, Broken, Other}
 
--- the call of what is wanted, where it is one
+-- the call that is wanted, if a call is
 abbrev pub call_of : Wanted → Option Call
 call_of (AskList f) = Some (call.Survey f.after)
 call_of (Record id) = Some (call.Record id)
@@ -38,7 +38,8 @@ call_of (Tell topic) = None
 call_of Broken = None
 call_of Other = None
 
--- the answer to its reply: a list shows those of its filter, a record all that is held; else the interface's answer
+-- the answer to its reply: a list shows the rows of its filter, a record everything that is held;
+-- otherwise the interface's answer
 abbrev pub answer_at : Wanted → Reply → Response
 answer_at (AskList f) (Surveyed s) = ok_json (survey_body f s)
 answer_at (Record id) (Held h) = ok_json (record_body h)
@@ -48,7 +49,7 @@ abbrev pub answer_to : Wanted → Result Reply Refusal → Response
 answer_to w (Ok reply) = answer_at w reply
 answer_to w (Err refusal) = refusal_answer refusal
 
--- a call is made, and the answer to what comes of it is written
+-- a call is made, and the answer to its result is written
 abbrev pub ServesCall : {W : Type 0} → Wanted → (makes : Result Reply Refusal → Type 0) → OfSink W → (old new : W) → Result ⊤ ServeError → Type 0
 ServesCall w makes sink old new result =
     (outcome : Result Reply Refusal) × makes outcome × Ends sink old new (answer_to w outcome) (refusal_in outcome) result
@@ -64,7 +65,7 @@ page_answer text = with_body 200 (frame_options ∷ []) (codes "text/html; chars
 abbrev pub counts_answer : List ℕ → Response
 counts_answer text = with_body 200 [] (codes "text/plain; version=0.0.4") text
 
--- whether the node enters commands, and why not
+-- whether the node accepts commands, and why not
 unfoldable pub ready_text : Option (List ℕ) → List ℕ
 ready_text None = opened (codes "ready") (truth true) ++ codes "}"
 ready_text (Some cause) = opened (codes "ready") (truth false) ++ (named (codes "cause") (word cause) ++ codes "}")
@@ -73,7 +74,8 @@ abbrev pub ready_answer : Option (List ℕ) → Response
 ready_answer None = ok_json (ready_text None)
 ready_answer (Some cause) = with_body 503 [] (codes "application/json") (ready_text (Some cause))
 
--- The answer that tells of a topic: the page, or by what the state tells of it. Of the text of a topic each state says what it may be
+-- The answer about a topic: the page, or a text of the state. Each state says which texts it may
+-- give for a topic
 abbrev pub IsTold : {T : Type 0} → OfState T → T → Topic → Response → Type 0
 IsTold of state Page response = response ≡ page_answer PAGE.now
 IsTold of state Health response = (text : List ℕ) × of.tells state Health text × (response ≡ ok_json text)
@@ -81,13 +83,14 @@ IsTold of state Ready response = (cause : Option (List ℕ)) × of.causes state 
 IsTold of state Metrics response = (text : List ℕ) × of.tells state Metrics text × (response ≡ counts_answer text)
 IsTold of state Calls response = (text : List ℕ) × of.tells state Calls text × (response ≡ ok_json text)
 
--- the answer that is told is written, or the memory was refused
+-- that answer is written, or memory was refused
 abbrev pub EndsTold : {W : Type 0} → (told : Response → Type 0) → OfSink W → (old new : W) → Result ⊤ ServeError → Type 0
 EndsTold told sink old new result =
     ((response : Response) × told response × Ends sink old new response None result) ⊎ EndsNoMemory sink old new None result
 
--- What is wanted is served where it is no call: what the interface has as it serves it, a topic is told, and else a broken text is E1.
--- `told`: what is told of a topic
+-- What is wanted is served if it is not a call: what the interface offers is served as it serves
+-- it, a topic is answered, and anything else is a broken text, E1. `told`: which answers there may
+-- be about a topic
 abbrev pub ServesOther : {W : Type 0} → (same : Type 0) → (makes : Call → Result Reply Refusal → Type 0) → (told : Topic → Response → Type 0) → OfSink W → (old new : W) → ℕ → Request → Wanted
     → Result ⊤ ServeError → Type 0
 ServesOther same makes told sink old new now request Other result = ServesRequest same makes sink old new (routed now request) result
@@ -99,7 +102,8 @@ abbrev pub ServesWanted : {W : Type 0} → (same : Type 0) → (makes : Call →
 ServesWanted same makes told sink old new now request w (Some c) result = ServesCall w (makes c) sink old new result
 ServesWanted same makes told sink old new now request w None result = ServesOther same makes told sink old new now request w result
 
--- a request that is foreign to a node of these names is refused; another is served by what it wants
+-- a request that is foreign to a node with these names is refused; any other is served by what it
+-- wants
 abbrev pub ServesAsked : {W : Type 0} → (same : Type 0) → (makes : Call → Result Reply Refusal → Type 0) → (told : Topic → Response → Type 0) → OfSink W → (old new : W) → ℕ → Request → (names : List (List ℕ))
     → Result ⊤ ServeError → Type 0
 ServesAsked same makes told sink old new now request names result =
@@ -107,8 +111,9 @@ ServesAsked same makes told sink old new now request names result =
     (same × Ends sink old new foreign_answer None result)
     (ServesWanted same makes told sink old new now request (wanted request) (call_of (wanted request)) result)
 
--- What was read is served: a request by what it wants, unless it is foreign, and a fault as the interface does. `same`: no call is made.
--- `makes`: this call is made, once, and this comes of it. `told`: what is told of a topic. `named`: the names that the node may have
+-- What was read is served: a request by what it wants, unless it is foreign, and a fault as the
+-- interface does. `same`: no call is made. `makes`: this call is made, once, with this result.
+-- `told`: which answers there may be about a topic. `named`: the names that the node may have
 abbrev pub Serves : {W : Type 0} → (same : Type 0) → (makes : Call → Result Reply Refusal → Type 0) → (told : Topic → Response → Type 0) → (named : List (List ℕ) → Type 0) → OfSink W → (old new : W) → ℕ
     → Result Request Fault → Result ⊤ ServeError → Type 0
 Serves same makes told named sink old new now (Ok request) result =

@@ -23,13 +23,13 @@ summary_text s =
 abbrev pub comma_if : Bool → List ℕ
 comma_if behind_ = if behind_ then codes "," else []
 
--- those that a filter shows, parted by commas
+-- the rows that a filter shows, separated by commas
 abbrev pub shown_text : Filter → (behind_ : Bool) → List Summary → List ℕ
 shown_text f behind_ [] = []
 shown_text f behind_ (s ∷ rows) =
     if shows f s then comma_if behind_ ++ (summary_text s ++ shown_text f true rows) else shown_text f behind_ rows
 
--- the LRA of the last row, where more follow
+-- the LRA of the last row, if more follow
 abbrev pub next_if : Bool → List Summary → Option Id
 next_if true rows = option_map (λ (s : Summary). s.id) (slice_get rows (length rows - 1))
 next_if false rows = None

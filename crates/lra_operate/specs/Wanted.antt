@@ -33,7 +33,7 @@ record_by None = Broken
 abbrev pub record_of : List ℕ → Wanted
 record_of path = record_by (id_of (id_part path))
 
--- the record of an LRA, where the interface's path is one of an LRA
+-- the record of an LRA, if the path is the interface's path of an LRA
 abbrev pub by_endpoint : Option Endpoint → List ℕ → Wanted
 by_endpoint (Some endpoint.Lra) path = record_of path
 by_endpoint _ path = Other
@@ -94,6 +94,6 @@ by_method method.Get path query = wanted_by_get path query
 by_method method.Put path query = wanted_by_put path
 by_method _ path query = Other
 
--- one of the operator's own paths by its own method, else what the interface has
+-- one of the operator's own paths by its own method, otherwise what the interface offers
 abbrev pub wanted : Request → Wanted
 wanted request = by_method (method_of request.method) (path_of request.target) (query_of request.target)

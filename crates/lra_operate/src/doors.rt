@@ -1,4 +1,4 @@
-// Whose requests an operator's port takes: those of operators, and of their page.
+// Decides whose requests an operator's port takes: those of operators, and of their page.
 ghost use Rattle.std.specs.Prelude.{◌≡◌, ◌<◌, IfOk, IfSome, length};
 ghost use Rattle.std.specs.Option.{option_copied};
 ghost use Rattle.std.specs.List.{list_any, position_from};
@@ -9,7 +9,7 @@ use lra_api::{Answer, Body, with_body};
 use lra_http::{Bytes, Fields};
 use std::alloc::{AllocError, Global};
 
-/// Whether two texts are one, in whichever case.
+/// Whether two texts are equal, ignoring case.
 fn is_same(one: &[u8], other: &[u8]) -> bool
     ensures { result ≡ is_same one.now other.now }
 {
@@ -22,7 +22,7 @@ fn is_colon(byte: u8) -> bool
     byte == b':'
 }
 
-/// The place of the first colon of a host, if it has one.
+/// Returns the position of the first colon of a host, if it has one.
 fn colon_in(host: &[u8]) -> Option<usize>
     ensures place { result ≡ position_from is_colon 0 host.now }
     ensures within { IfSome result (λ place. place < length host.now) }
@@ -30,7 +30,7 @@ fn colon_in(host: &[u8]) -> Option<usize>
     host.iter().position(|byte| is_colon(*byte))
 }
 
-/// What stands before the port of a host; all of it where there is none.
+/// Returns what stands before the port of a host; all of it if there is no port.
 fn host_part(host: &[u8]) -> &[u8]
     ensures { result.now ≡ host_part host.now }
 {
@@ -40,7 +40,7 @@ fn host_part(host: &[u8]) -> &[u8]
     }
 }
 
-/// Whether a byte is none of an address by version 4 of IP.
+/// Whether a byte can't stand in an IPv4 address.
 fn is_other_byte(byte: u8) -> bool
     ensures { result ≡ is_other_byte byte }
 {
@@ -59,22 +59,22 @@ fn has_other_byte(part: &[u8]) -> bool
     part.iter().any(|byte| is_other_byte(*byte))
 }
 
-/// Whether a host is an address: one in brackets, or one of digits and points, before its port.
+/// Whether a host is an address: in brackets, or only digits and dots before its port.
 fn is_address(host: &[u8]) -> bool
     ensures { result ≡ is_address host.now }
 {
     is_bracketed(host) || !has_other_byte(host_part(host))
 }
 
-/// Whether a host without its port is one of these names.
+/// Whether a host without its port has one of these names.
 fn is_named(names: &[Bytes], part: &[u8]) -> bool
     ensures { result ≡ is_named names.now part.now }
 {
     names.iter().any(|name| is_same(part, name.as_slice()))
 }
 
-/// Whether a request for this host is for the node: by an address, as `localhost`, or by one of these
-/// names. A page of another site comes by a name of its own.
+/// Whether a request for this host is for the node: by an address, as `localhost`, or by one of
+/// these names. A page of another site would come with a name of its own.
 fn is_own_host(names: &[Bytes], host: &[u8]) -> bool
     ensures { result ≡ is_own_host names.now host.now }
 {
@@ -82,8 +82,8 @@ fn is_own_host(names: &[Bytes], host: &[u8]) -> bool
     is_address(host) || (is_same(part, b"localhost") || is_named(names, part))
 }
 
-/// Whether a page of this host, with its port, is the operators': the host was asked for, or it is
-/// one of these names. A proxy may ask for another host than the page's.
+/// Whether a page of this host, with its port, is the operators' page: its host was asked for, or
+/// has one of these names. A proxy may ask for another host than the page's.
 fn is_page_of(names: &[Bytes], host: &[u8], page: &[u8]) -> bool
     ensures { result ≡ is_page_of names.now host.now page.now }
 {
@@ -117,7 +117,7 @@ fn is_foreign_host(names: &[Bytes], host: Option<&[u8]>) -> bool
     }
 }
 
-/// Whether a request comes from a page of another host, if it comes from a page.
+/// Whether a request comes from a page of another host, if it comes from a page at all.
 fn is_foreign_origin(names: &[Bytes], host: Option<&[u8]>, origin: Option<&[u8]>) -> bool
     ensures { result ≡ is_foreign_origin names.now (option_copied host.entry) (option_copied origin.entry) }
 {
@@ -128,14 +128,15 @@ fn is_foreign_origin(names: &[Bytes], host: Option<&[u8]>, origin: Option<&[u8]>
     }
 }
 
-/// The value of a field.
+/// Returns the value of a field.
 fn value_in<'a>(fields: &'a Fields, name: &str) -> Option<&'a [u8]>
     ensures { option_copied result ≡ value_in name.now fields.now }
 {
     fields.value(name.as_bytes())
 }
 
-/// Whether a request is a coordinator's own call to a link, of an LRA or of its end.
+/// Whether a request is a coordinator's own call to a link of a participant, in an LRA or at its
+/// end.
 fn is_of_a_call(fields: &Fields) -> bool
     ensures { result ≡ is_of_a_call fields.now }
 {
@@ -143,8 +144,8 @@ fn is_of_a_call(fields: &Fields) -> bool
         || value_in(fields, "Long-Running-Action-Ended").is_some()
 }
 
-/// Whether a request with these fields is none of an operator's, nor of the operators' page: a
-/// coordinator's own call, one for another host, or one from a page of another host.
+/// Whether a request with these fields comes neither from an operator nor from the operators' page:
+/// it is a coordinator's own call, is for another host, or comes from a page of another host.
 pub(crate) fn is_foreign(names: &[Bytes], fields: &Fields) -> bool
     ensures { result ≡ is_foreign names.now fields.now }
 {
@@ -154,7 +155,7 @@ pub(crate) fn is_foreign(names: &[Bytes], fields: &Fields) -> bool
             || is_foreign_origin(names, host, value_in(fields, "Origin")))
 }
 
-/// The answer to such a request.
+/// Makes the answer to such a request.
 pub(crate) fn foreign_answer<'a>(alloc: Global) -> Result<Answer<'a>, AllocError>
     ensures { IfOk result (λ response. response ≡ foreign_answer) }
 {

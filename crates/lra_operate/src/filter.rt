@@ -8,10 +8,10 @@ use lra_api::id_of;
 use lra_book::Summary;
 use lra_id::{LraId, LraStatus};
 
-/// Which LRAs a list shows: of those beyond one, those with a status, and roots alone. It doesn't
-/// go by what a purge would answer, nor tells a list since when an LRA has ended: for each row the
-/// node would have to look through its home. `/lra/ID` tells of one, and the page remembers when it
-/// first saw an end.
+/// Which LRAs a list shows: those beyond an LRA, those with a status, or only roots. A list isn't
+/// filtered by what a purge would be answered, and doesn't say since when an LRA has ended, because
+/// the node would have to look through its home for each row. `/lra/ID` says it of one LRA, and the
+/// page remembers when it first saw an end.
 #[derive(Clone, Copy, Debug, PartialEq, Eq)]
 pub struct Filter {
     pub after: Option<LraId>,
@@ -19,8 +19,8 @@ pub struct Filter {
     pub is_of_roots: bool,
 }
 
-/// The status of this name. `LraStatus::from_name` says what it finds by a relation; a query is
-/// read by a function, so that what is wanted is one.
+/// Returns the status with this name. The contract of `LraStatus::from_name` is a relation, but a
+/// query is read by a function, so that what it asks for is one too.
 fn status_named(name: &str) -> Option<LraStatus>
     ensures { result ≡ status_named name.now }
 {
@@ -36,7 +36,7 @@ fn status_named(name: &str) -> Option<LraStatus>
     }
 }
 
-/// The id behind `after=`, if a text is that.
+/// Returns the id behind `after=`, if the text is that.
 fn after_at(text: &str) -> Option<LraId>
     ensures { result ≡ after_at text.now }
 {
@@ -46,7 +46,7 @@ fn after_at(text: &str) -> Option<LraId>
     id_of(id)
 }
 
-/// The status behind `status=`, if a text is that.
+/// Returns the status behind `status=`, if the text is that.
 fn status_at(text: &str) -> Option<LraStatus>
     ensures { result ≡ status_at text.now }
 {
@@ -56,7 +56,7 @@ fn status_at(text: &str) -> Option<LraStatus>
     status_named(name)
 }
 
-/// One part of a query: an id, or a status.
+/// Reads a query of one part: an id, or a status.
 fn one_of(text: &str, is_of_roots: bool) -> Option<Filter>
     ensures { result ≡ spec.one_of text.now is_of_roots }
 {
@@ -77,7 +77,7 @@ fn one_of(text: &str, is_of_roots: bool) -> Option<Filter>
     }
 }
 
-/// Two parts: an id, and then a status.
+/// Reads a query of two parts: an id, and then a status.
 fn both_of(first: &str, second: &str, is_of_roots: bool) -> Option<Filter>
     ensures { result ≡ spec.both_of first.now second.now is_of_roots }
 {
@@ -100,7 +100,7 @@ fn filter_by(query: &str, is_of_roots: bool) -> Option<Filter>
     }
 }
 
-/// What a query asks for: all, `after=ID`, `status=S`, or both in this order.
+/// Returns what a query asks for: all, `after=ID`, `status=S`, or both in this order.
 pub(crate) fn filter_in(query: Option<&str>, is_of_roots: bool) -> Option<Filter>
     ensures { result ≡ filter_in (option_copied query.entry) is_of_roots }
 {
@@ -115,7 +115,7 @@ pub(crate) fn filter_in(query: Option<&str>, is_of_roots: bool) -> Option<Filter
 }
 
 impl Filter {
-    /// Whether it shows an LRA.
+    /// Whether the list shows an LRA.
     pub(crate) fn shows(&self, summary: &Summary) -> bool
         ensures { result ≡ shows self.now summary.now }
     {

@@ -1,4 +1,4 @@
-// Pieces of JSON.
+// Writes pieces of JSON.
 ghost use Rattle.std.specs.Prelude.{◌≡◌, ◌++◌, OnOk};
 ghost use Rattle.std.specs.Fmt.{decimal};
 ghost use Rattle.lra_id.specs.Ids.{text_of};
@@ -20,7 +20,7 @@ fn push_id(body: &mut Vec<u8>, id: LraId) -> Result<(), AllocError>
     body.extend_from_slice(&id.to_text())
 }
 
-/// A quoted word that has nothing to be escaped.
+/// Writes a quoted word in which nothing must be escaped.
 #[tactic(auto, unfolding(crate::specs::Json::word))]
 pub(crate) fn push_word(body: &mut Vec<u8>, text: &str) -> Result<(), AllocError>
     ensures { OnOk result (body.new.items ≡ body.old.items ++ word text.now) }
@@ -30,7 +30,7 @@ pub(crate) fn push_word(body: &mut Vec<u8>, text: &str) -> Result<(), AllocError
     push(body, "\"")
 }
 
-/// A member's name, behind the object's brace.
+/// Writes a member's name behind the object's brace.
 #[tactic(auto, unfolding(crate::specs::Json::opening))]
 pub(crate) fn push_opening(body: &mut Vec<u8>, name: &str) -> Result<(), AllocError>
     ensures { OnOk result (body.new.items ≡ body.old.items ++ opening name.now) }
@@ -40,7 +40,7 @@ pub(crate) fn push_opening(body: &mut Vec<u8>, name: &str) -> Result<(), AllocEr
     push(body, "\":")
 }
 
-/// A member's name, behind another member.
+/// Writes a member's name behind another member.
 #[tactic(auto, unfolding(crate::specs::Json::key))]
 pub(crate) fn push_key(body: &mut Vec<u8>, name: &str) -> Result<(), AllocError>
     ensures { OnOk result (body.new.items ≡ body.old.items ++ key name.now) }
@@ -84,7 +84,7 @@ fn push_number(alloc: Global, body: &mut Vec<u8>, number: u64) -> Result<(), All
     push(body, digits.as_str())
 }
 
-/// A number, or nothing where that is 0.
+/// Writes a number, or null if it is 0.
 fn push_number_or_null(alloc: Global, body: &mut Vec<u8>, number: u64) -> Result<(), AllocError>
     ensures { OnOk result (body.new.items ≡ body.old.items ++ number_or_null number) }
 {
@@ -119,7 +119,8 @@ fn push_escaped(body: &mut Vec<u8>, bytes: &[u8]) -> Result<(), AllocError>
     Ok(())
 }
 
-/// A string of a text without control characters: a quote, and a backslash, behind a backslash.
+/// Writes a text without control characters as a string: each quote and backslash follows a
+/// backslash.
 #[tactic(auto, unfolding(crate::specs::Json::quoted))]
 pub(crate) fn push_quoted(body: &mut Vec<u8>, text: &str) -> Result<(), AllocError>
     ensures { OnOk result (body.new.items ≡ body.old.items ++ quoted text.now) }

@@ -1,5 +1,5 @@
-//! The operator's port of a node: what stands there beside the interface, and what each path
-//! answers.
+//! The operator's port of a node: the paths that exist there besides the interface, and what each
+//! is answered.
 #![tactic(auto)]
 
 mod doors;

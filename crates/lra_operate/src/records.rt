@@ -1,4 +1,4 @@
-// All that is held of an LRA, as JSON.
+// Writes everything that is held of an LRA, as JSON.
 ghost use Rattle.std.specs.Prelude.{◌≡◌, ◌++◌, ◌<◌, IfOk, OnOk, codes};
 ghost use Rattle.std.specs.Option.{option_copied};
 ghost use Rattle.lra_forest.specs.declared.record.TheConstants.{MAX_MEMBERS};
@@ -15,7 +15,7 @@ use lra_forest::{MAX_MEMBERS, Member, Participant, Place};
 use lra_id::{LraId, MemberStatus, Outcome, Verdict};
 use std::alloc::{AllocError, Global};
 
-/// The LRA of this number at the home of another.
+/// Returns the LRA with this number at the home of another.
 fn nested_at(id: LraId, number: u64) -> Option<LraId>
     ensures { result ≡ nested_at id number }
 {
@@ -106,7 +106,7 @@ fn add_links(body: &mut Vec<u8>, links: &Links) -> Result<(), AllocError>
     push_links(body, links)
 }
 
-/// What was heard of a participant, and what it was told.
+/// Writes the outcomes that were learned from a participant, and what it was notified of.
 #[tactic(auto, unfolding(crate::specs::Records::said_text))]
 fn push_said(body: &mut Vec<u8>, participant: &Participant) -> Result<(), AllocError>
     ensures { OnOk result (body.new.items ≡ body.old.items ++ said_text participant.now) }
@@ -153,7 +153,7 @@ fn push_left(body: &mut Vec<u8>) -> Result<(), AllocError>
     push(body, "}")
 }
 
-/// What stands behind the number of a member of an LRA.
+/// Writes what stands behind the number of a member of an LRA.
 fn push_member(
     body: &mut Vec<u8>,
     id: LraId,
@@ -186,7 +186,7 @@ fn push_row(
     push_member(body, id, member, status)
 }
 
-/// The member at a place, if one is there.
+/// Writes the member at a place, if there is one.
 fn push_row_at(
     alloc: Global,
     body: &mut Vec<u8>,
@@ -205,7 +205,7 @@ fn push_row_at(
     }
 }
 
-/// All members, in order of their numbers.
+/// Writes all members, in order of their numbers.
 #[tactic(auto, unfolding(crate::specs::Records::rows_text))]
 fn push_rows(alloc: Global, body: &mut Vec<u8>, holding: &Holding) -> Result<(), AllocError>
     ensures { OnOk result (body.new.items ≡ body.old.items ++ rows_text holding.now) }
@@ -216,7 +216,7 @@ fn push_rows(alloc: Global, body: &mut Vec<u8>, holding: &Holding) -> Result<(),
     Ok(())
 }
 
-/// What a purge would be answered: `due`, or the refusal.
+/// Writes how a purge would be answered: `due`, or the refusal.
 fn push_purge(alloc: Global, body: &mut Vec<u8>, purge: CommandReply) -> Result<(), AllocError>
     ensures { OnOk result (body.new.items ≡ body.old.items ++ purge_text purge) }
 {
@@ -237,7 +237,7 @@ fn add_purge(alloc: Global, body: &mut Vec<u8>, purge: CommandReply) -> Result<(
     push_purge(alloc, body, purge)
 }
 
-/// What stands before the members.
+/// Writes what stands before the members.
 #[tactic(auto, unfolding(crate::specs::Records::head_text))]
 fn push_head(alloc: Global, body: &mut Vec<u8>, holding: &Holding) -> Result<(), AllocError>
     ensures { OnOk result (body.new.items ≡ body.old.items ++ head_text holding.now) }
@@ -251,7 +251,7 @@ fn push_head(alloc: Global, body: &mut Vec<u8>, holding: &Holding) -> Result<(),
     add_purge(alloc, body, holding.purge)
 }
 
-/// The body that tells all that is held of an LRA.
+/// Makes the body with everything that is held of an LRA.
 #[tactic(auto, unfolding(crate::specs::Records::record_body))]
 pub(crate) fn record_body(alloc: Global, holding: &Holding) -> Result<Vec<u8>, AllocError>
     ensures { IfOk result (λ body. body.items ≡ record_body holding.now) }

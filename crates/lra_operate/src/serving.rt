@@ -1,4 +1,4 @@
-// One request at an operator's port, from its first byte to the last of its answer.
+// Serves one request at an operator's port, from its first byte to the last byte of its answer.
 ghost use Rattle.std.specs.Prelude.{◌≡◌, Result, IfOk, None};
 ghost use Rattle.lra_http.specs.declared.fault.Fault.{Fault as TheFault};
 ghost use Rattle.lra_http.specs.declared.message.Request.{Request as TheRequest};
@@ -25,14 +25,14 @@ use lra_facts::{Command, Refusal};
 use lra_http::{Bytes, MAX_BODY_BYTES, Request, Sink, Source, read_request};
 use std::alloc::{AllocError, Global};
 
-/// The survey of which a list shows some.
+/// Makes the survey of which a list shows some rows.
 fn survey_of(filter: &Filter) -> Call
     ensures { result ≡ Survey filter.now.after }
 {
     Call::Survey(filter.after)
 }
 
-/// The call of what is wanted, where it is one.
+/// Returns the call that is wanted, if a call is wanted.
 fn call_of(wanted: &Wanted) -> Option<Call>
     ensures { result ≡ call_of wanted.now }
 {
@@ -51,7 +51,7 @@ fn call_of(wanted: &Wanted) -> Option<Call>
     }
 }
 
-/// The answer to the reply to what is wanted.
+/// Makes the answer to the reply to what is wanted.
 fn answer_at<'a>(alloc: Global, wanted: &Wanted, reply: &'a Reply) -> Result<Answer<'a>, AllocError>
     ensures { IfOk result (λ response. response ≡ answer_at wanted.now reply.now) }
 {
@@ -118,7 +118,7 @@ fn serve_broken<W: Sink>(alloc: Global, writer: &mut W) -> Result<(), ServeError
     end(alloc, writer, made, None)
 }
 
-/// Serves what is wanted where that is no call.
+/// Serves what is wanted if that is not a call.
 fn serve_other<W: Sink, C: Clerk, T: State>(
     alloc: Global,
     paths: &Paths,
@@ -161,7 +161,7 @@ fn serve_wanted<W: Sink, C: Clerk, T: State>(
     }
 }
 
-/// Refuses a request that is none of an operator's.
+/// Refuses a request that doesn't come from an operator.
 fn serve_foreign<W: Sink>(alloc: Global, writer: &mut W) -> Result<(), ServeError>
     ensures { Ends W.Sink writer.old writer.new foreign_answer None result }
 {
@@ -191,11 +191,11 @@ fn serve_asked<W: Sink, C: Clerk, T: State>(
 }
 
 /// Reads one request at an operator's port, and writes one answer. It makes the call that is
-/// wanted, once, or none: one of the operator's own paths shows the LRAs that are held, all that is
-/// held of one, or enters a word in the place of a participant; or tells what the node's threads
-/// know; and what the interface has is served as it serves it. A coordinator's own call to a link
-/// is refused (403), and so is what is for another host or comes from a page of one. Errors: as
-/// `lra_api::serve_one`.
+/// wanted, once, or none. The operator's own paths show the LRAs that are held, show everything
+/// that is held of one, or record something on behalf of a participant; or they show what the
+/// node's threads know. Requests for paths of the interface are served as the interface serves
+/// them. A coordinator's own call to a link is refused (403), and so is a request that is for
+/// another host or comes from a page of one. Errors: the same as those of `lra_api::serve_one`.
 pub fn serve_operator<R: Source, W: Sink, C: Clerk, T: State>(
     alloc: Global,
     paths: &Paths,

@@ -1,4 +1,4 @@
-// A list of LRAs, as JSON.
+// Writes a list of LRAs, as JSON.
 ghost use Rattle.std.specs.Prelude.{◌≡◌, ◌++◌, IfOk, OnOk, false};
 ghost use Rattle.lra_operate.specs.Surveys.{next_of, shown_text, summary_text, survey_body};
 ghost use Rattle.lra_operate.specs.Surveys as spec;
@@ -33,7 +33,7 @@ fn push_summary(alloc: Global, body: &mut Vec<u8>, summary: &Summary) -> Result<
     push(body, "}")
 }
 
-/// The rows that a filter shows, each behind a comma, save the first of all.
+/// Writes the rows that a filter shows, each behind a comma, except the very first.
 fn push_shown(
     alloc: Global,
     body: &mut Vec<u8>,
@@ -65,8 +65,8 @@ fn next_of(survey: &Survey) -> Option<LraId>
     }
 }
 
-/// The body that lists those of a survey that a filter shows, and beyond which LRA the next survey
-/// goes on.
+/// Makes the body that lists the rows of a survey that a filter shows, and names the LRA beyond
+/// which the next survey goes on.
 #[tactic(auto, unfolding(crate::specs::Surveys::survey_body))]
 pub(crate) fn survey_body(
     alloc: Global,

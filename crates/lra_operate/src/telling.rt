@@ -1,4 +1,4 @@
-// The answers that tell what the threads of a node know, and the page.
+// Makes the answers with what the threads of a node know, and the page.
 ghost use Rattle.std.specs.Prelude.{◌≡◌, ◌∷◌, [], IfOk};
 ghost use Rattle.std.specs.Option.{option_copied};
 ghost use Rattle.lra_operate.specs.Serving.{IsTold, counts_answer, frame_options, page_answer, ready_answer, ready_text};
@@ -30,7 +30,7 @@ fn ready_text(alloc: Global, cause: Option<&'static str>) -> Result<Vec<u8>, All
     Ok(text)
 }
 
-/// Whether the node enters commands.
+/// Makes the answer that says whether the node accepts commands.
 fn ready_answer<'a>(alloc: Global, cause: Option<&'static str>) -> Result<Answer<'a>, AllocError>
     ensures { IfOk result (λ response. response ≡ ready_answer (option_copied cause.entry)) }
 {
@@ -45,7 +45,7 @@ fn ready_answer<'a>(alloc: Global, cause: Option<&'static str>) -> Result<Answer
     }
 }
 
-/// That no other page may show this one in a frame.
+/// Makes the field that forbids other pages to show this one in a frame.
 fn frame_options(alloc: Global) -> Result<Vec<Field>, AllocError>
     ensures { IfOk result (λ fields. fields.items ≡ frame_options ∷ []) }
 {
@@ -58,7 +58,8 @@ fn frame_options(alloc: Global) -> Result<Vec<Field>, AllocError>
     }
 }
 
-/// The page, which no other page may show in a frame, since its buttons act.
+/// Makes the answer with the page. No other page may show it in a frame, because its buttons do
+/// things.
 fn page_answer<'a>(alloc: Global, text: Vec<u8>) -> Result<Answer<'a>, AllocError>
     ensures { IfOk result (λ response. response ≡ page_answer text.items) }
 {
@@ -73,7 +74,7 @@ fn page_answer<'a>(alloc: Global, text: Vec<u8>) -> Result<Answer<'a>, AllocErro
     )
 }
 
-/// The counts, in the text format of Prometheus.
+/// Makes the answer with the counts, in the text format of Prometheus.
 fn counts_answer<'a>(alloc: Global, text: Vec<u8>) -> Result<Answer<'a>, AllocError>
     ensures { IfOk result (λ response. response ≡ counts_answer text.items) }
 {
@@ -82,7 +83,7 @@ fn counts_answer<'a>(alloc: Global, text: Vec<u8>) -> Result<Answer<'a>, AllocEr
     with_body(alloc, StatusCode::OK, Vec::new(alloc), kind, body)
 }
 
-/// What is told of a topic.
+/// Makes the answer about a topic.
 pub(crate) fn told_answer<'a, T: State>(
     alloc: Global,
     state: &T,

@@ -1,4 +1,4 @@
-// What a request at an operator's port wants.
+// Finds out what a request at an operator's port wants.
 ghost use Rattle.std.specs.Prelude.{◌≡◌};
 ghost use Rattle.std.specs.Option.{option_copied};
 ghost use Rattle.lra_operate.specs.Wanted.{forgot_of, is_of_member, last_word, list_of, record_of, told_of, wanted, wanted_by_get, wanted_by_put, wanted_of_lra};
@@ -12,41 +12,41 @@ use lra_api::{
 use lra_http::Request;
 use lra_id::LraId;
 
-/// What is told without a call.
+/// A topic that is answered without a call.
 #[derive(Clone, Copy, Debug, PartialEq, Eq)]
 pub enum Topic {
     /// `GET /`: the page.
     Page,
-    /// `GET /health`: that the node lives.
+    /// `GET /health`: that the node is alive.
     Health,
-    /// `GET /ready`: whether it enters commands.
+    /// `GET /ready`: whether it accepts commands.
     Ready,
     /// `GET /metrics`: its counts.
     Metrics,
-    /// `GET /calls`: whom it calls in vain.
+    /// `GET /calls`: the participants whose calls fail.
     Calls,
 }
 
 /// What a request at an operator's port wants.
 #[derive(Clone, Copy, Debug, PartialEq, Eq)]
 pub enum Wanted {
-    /// What the threads of the node know of this, or the page.
+    /// What the threads of the node know about this topic, or the page.
     Tell(Topic),
     /// `GET /lras`, `GET /roots`: a list of LRAs.
     List(Filter),
-    /// `GET /lra/{id}`: all that is held of an LRA.
+    /// `GET /lra/{id}`: everything that is held of an LRA.
     Record(LraId),
-    /// `PUT /lra/{id}/member/{m}/forgot`: that it forgot, said in the place of a participant.
+    /// `PUT /lra/{id}/member/{m}/forgot`: records on behalf of a participant that it forgot.
     Forgot(LraId, u8),
-    /// `PUT /lra/{id}/member/{m}/told`: that it was told of the end.
+    /// `PUT /lra/{id}/member/{m}/told`: records that a participant was notified of the end.
     Told(LraId, u8),
     /// An id, a number or a query of one of these breaks its grammar.
     Broken,
-    /// Something that the interface has, or nothing.
+    /// A path of the interface, or an unknown one.
     Other,
 }
 
-/// A list, by its query.
+/// Returns the list that a query asks for.
 fn list_of(query: Option<&str>, is_of_roots: bool) -> Wanted
     ensures { result ≡ list_of (option_copied query.entry) is_of_roots }
 {
@@ -65,7 +65,7 @@ fn record_of(path: &str) -> Wanted
     }
 }
 
-/// The record of an LRA, where a path leads to one.
+/// Returns the record of an LRA, if the path leads to one.
 fn wanted_of_lra(paths: &Paths, path: &str) -> Wanted
     ensures { result ≡ wanted_of_lra path.now }
 {
@@ -118,7 +118,7 @@ fn is_of_member(path: &str) -> bool
         && part_of(rest_of(rest_of(behind))) == "member"
 }
 
-/// What stands behind the number of a member.
+/// Returns what stands behind the number of a member.
 fn last_word(path: &str) -> &str
     ensures { result.now ≡ last_word path.now }
 {
@@ -138,8 +138,8 @@ fn wanted_by_put(path: &str) -> Wanted
     }
 }
 
-/// What a request wants: one of the operator's own paths by its own method, else what the interface
-/// has.
+/// Returns what a request wants: one of the operator's own paths by its own method, otherwise what
+/// the interface offers.
 pub fn wanted_by(paths: &Paths, request: &Request) -> Wanted
     ensures { result ≡ wanted request.now }
 {
