@@ -1,4 +1,4 @@
--- What is noted of a call for the other threads.
+-- The effects of a call that the other threads go on with.
 use Rattle.std.specs.Prelude.{◌&&◌, Bool, true, false, Option, None, Some, if◌then◌else◌, not}
 use Rattle.lra_id.specs.Ids.{Id}
 use Rattle.lra_id.specs.declared.outcome.Act.{Act}
@@ -20,7 +20,7 @@ use Rattle.lra_mailbox.specs.declared.noted.News.{News}
 use Rattle.lra_mailbox.specs.declared.noted.News.TheVariants.{Nobody, OfCompletion, Others}
 use Rattle.lra_mailbox.specs.declared.noted.Noted.{Noted}
 
--- whether a command was entered: then a fact was stored
+-- whether a command was recorded: then a fact was stored
 abbrev pub is_entered : CommandReply → Bool
 is_entered reply.Known = false
 is_entered (reply.Refused refusal) = false
@@ -40,8 +40,8 @@ is_taken _ = false
 abbrev pub is_own : Reply → Bool
 is_own reply = is_stored reply && not (is_taken reply)
 
--- whether other participants may be due: a decision, a report or a forgetting was entered, a frame taken, or an LRA expired; or a
--- listener is due no more, as it was told
+-- whether other participants may be due: a decision, a report or a forgetting was recorded, a frame
+-- was taken, or an LRA expired; or a listener is no longer due, because it was notified
 abbrev pub news_by : (completes : Bool) → CommandReply → News
 news_by completes (reply.Decided id status) = Others
 news_by completes reply.Forgotten = Others
@@ -55,7 +55,7 @@ news_of completes (Expired id) = Others
 news_of completes (OfCommand done) = news_by completes done
 news_of completes _ = Nobody
 
--- what may have become of an LRA
+-- what may have changed of an LRA
 abbrev pub became_where : Refusal → Became
 became_where refusal.LrasFull = Full
 became_where _ = Nothing
@@ -74,7 +74,7 @@ became_of (Expired id) = Ended
 became_of (OfCommand done) = became_by done
 became_of _ = Nothing
 
--- whether a call enters something of the node's own
+-- whether a call may store a fact of the node's own
 abbrev pub enters : Call → Bool
 enters (call.Command it) = true
 enters call.Expire = true
@@ -94,7 +94,7 @@ abbrev pub is_completion : Call → Bool
 is_completion (call.Command it) = reports_completion it
 is_completion _ = false
 
--- the LRA of which a call says that a participant was told what it was to be told
+-- the LRA of which a call says that a participant was notified as it was to be
 abbrev pub told_by : Command → Option Id
 told_by (command.Forgot id member) = Some id
 told_by (command.Told id member) = Some id
@@ -104,7 +104,8 @@ abbrev pub freed_by : Call → Option Id
 freed_by (call.Command it) = told_by it
 freed_by _ = None
 
--- of whom a call says what became of it: that it did what it was asked for, or was told of the end
+-- the participant whose outcome a call reports: that it did what it was asked for, or was notified
+-- of the end
 abbrev pub said_by : Command → Option Called
 said_by (command.Report id member of outcome) = Some (record { id = id; member = member; of_end = false })
 said_by (command.Forgot id member) = Some (record { id = id; member = member; of_end = false })
@@ -115,7 +116,7 @@ abbrev pub heard_by : Call → Option Called
 heard_by (call.Command it) = said_by it
 heard_by _ = None
 
--- that counts if it was entered
+-- that counts if it was recorded
 abbrev pub is_entered_so : CommandReply → Bool
 is_entered_so reply.Reported = true
 is_entered_so reply.Forgotten = true
@@ -129,11 +130,11 @@ is_said _ = false
 abbrev pub heard_if : Option Called → Reply → Option Called
 heard_if heard reply = if is_said reply then heard else None
 
--- what a call leaves that reported a completion or didn't, said that a participant of an LRA was told, or didn't, and said of somebody what
--- became of it, or didn't
+-- the effects of a call, given whether it reported a completion and, if it named one, the LRA of
+-- which a participant was notified and the participant whose outcome it reported
 abbrev pub noted_by : (completes : Bool) (freed : Option Id) (heard : Option Called) → Reply → Noted
 noted_by completes freed heard reply = record { news = news_of completes reply; became = became_of reply; freed = freed; heard = heard_if heard reply; took = is_taken reply }
 
--- of a call that leaves nothing
+-- the effects of a call that has none
 abbrev pub nothing : Noted
 nothing = record { news = Nobody; became = Nothing; freed = None; heard = None; took = false }

@@ -1,4 +1,4 @@
--- What came of a purge by a sweep, by its reply.
+-- The result of a purge by a sweep, given its reply.
 use Rattle.lra_facts.specs.declared.refusal.Refusal.{Refusal}
 use Rattle.lra_facts.specs.declared.refusal.Refusal.TheVariants as refusal
 use Rattle.lra_facts.specs.declared.command.CommandReply.{CommandReply}
@@ -8,7 +8,8 @@ use Rattle.lra_book.specs.declared.calls.Reply.TheVariants.{Command as OfCommand
 use Rattle.lra_mailbox.specs.declared.sweep.Purged.{Purged}
 use Rattle.lra_mailbox.specs.declared.sweep.Purged.TheVariants.{Changed, Gone, Later, Missing, Nested, Waits}
 
--- where it is refused: the LRA isn't held, or is no root; somebody is still to be told of one under it; or else it is tried later
+-- if it is refused: the LRA isn't held, or is not a root; a participant below it is still to be
+-- notified; or, for any other refusal, it is tried later
 abbrev pub put_off_by : Refusal → Purged
 put_off_by refusal.NotHeld = Missing
 put_off_by refusal.NotRoot = Nested
@@ -16,12 +17,12 @@ put_off_by (refusal.StillToForget id member) = Waits id
 put_off_by (refusal.StillToTell id member) = Waits id
 put_off_by _ = Later
 
--- where its command was entered, it is gone
+-- if its command was recorded, the LRA is gone
 abbrev pub purged_in : CommandReply → Purged
 purged_in (reply.Refused refusal) = put_off_by refusal
 purged_in _ = Gone
 
--- where it shows something else than it did, nothing was entered
+-- if it shows something else than it did, nothing was recorded
 abbrev pub purged_by : Reply → Purged
 purged_by (Shown id status) = Changed
 purged_by (Refused refusal) = put_off_by refusal

@@ -1,4 +1,4 @@
-// The pull by which a node counts its facts.
+// Makes the pull by which a node counts its facts.
 ghost use Rattle.std.specs.Prelude.{◌≡◌, ◌≤◌, IfOk, replicate};
 ghost use Rattle.lra_id.specs.declared.TheConstants.{LAST_NUMBER, MAX_NODES};
 ghost use Rattle.lra_peer.specs.PullBodies.{pull_body};
@@ -8,7 +8,7 @@ use lra_id::{Front, LAST_NUMBER, MAX_NODES};
 use lra_peer::pull_body;
 use std::alloc::{AllocError, Global};
 
-/// Of each of so many nodes all facts that there can be.
+/// Makes the front that has all facts that there can be of each of `nodes` nodes.
 fn front_of_all(nodes: u8) -> Front
     requires { (1 ≤ nodes) × (nodes ≤ MAX_NODES) }
     ensures { result ≡ replicate nodes LAST_NUMBER }
@@ -17,8 +17,8 @@ fn front_of_all(nodes: u8) -> Front
     Front::from_counts(&counts[..usize::from(nodes)])
 }
 
-/// The body of a pull by one that has all facts that there can be of so many nodes: nothing is told then
-/// but how many there are. Errors: out of memory.
+/// Makes the body of a pull by a node that has all facts that there can be of `nodes` nodes. So the
+/// answer only says how many facts there are. Errors: out of memory.
 pub fn body_of_all(alloc: Global, nodes: u8) -> Result<PullBody, AllocError>
     requires { (1 ≤ nodes) × (nodes ≤ MAX_NODES) }
     ensures { IfOk result (λ body. body ≡ pull_body (replicate nodes LAST_NUMBER)) }

@@ -1,5 +1,6 @@
-//! What a call at a node's desk leaves for others to go on with, by the call and its reply: whom that may
-//! make due, what became of an LRA, what came of a purge. It knows no thread, no lock and no clock.
+//! The effects of a call at a node's desk that others go on with, worked out from the call and its
+//! reply: which participants it may make due, what it changed of an LRA, the result of a purge. It
+//! knows no thread, no lock and no clock.
 #![tactic(auto)]
 
 mod counting;

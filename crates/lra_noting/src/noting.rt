@@ -1,4 +1,4 @@
-// What a call at the desk leaves for the threads to go on with.
+// Works out the effects of a call at the desk that the threads go on with.
 ghost use Rattle.std.specs.Prelude.{◌≡◌, MatchBool};
 ghost use Rattle.lra_noting.specs.Noting.{became_by, became_of, enters, freed_by, heard_by, heard_if, is_completion, is_own, is_said, is_stored, is_taken, news_by, news_of, noted_by, nothing, said_by, told_by};
 
@@ -8,15 +8,15 @@ use lra_id::{Act, LraId};
 use lra_mailbox::{Became, News, Noted};
 use lra_turns::Called;
 
-/// Whether a call enters something of the node's own.
+/// Whether a call may store a fact of the node's own.
 pub fn enters(call: &Call) -> bool
     ensures { result ≡ enters call.now }
 {
     matches!(call, Call::Command(_) | Call::Expire | Call::Sweep { .. })
 }
 
-/// Whether a call reports a completion: it makes nobody else due, save when the last one has
-/// completed.
+/// Whether a call reports a completion: that makes no other participant due, unless it is the last
+/// one to complete.
 pub fn is_completion(call: &Call) -> bool
     ensures { result ≡ is_completion call.now }
 {
@@ -29,7 +29,7 @@ pub fn is_completion(call: &Call) -> bool
     )
 }
 
-/// The LRA of which a command says that a participant was told what it was to be told.
+/// Returns the LRA of which a command says that a participant was notified as it was to be.
 fn told_by(command: &Command) -> Option<LraId>
     ensures { result ≡ told_by command.now }
 {
@@ -39,7 +39,7 @@ fn told_by(command: &Command) -> Option<LraId>
     }
 }
 
-/// The LRA of which a call says so.
+/// Returns the LRA of which a call says this.
 pub fn freed_by(call: &Call) -> Option<LraId>
     ensures { result ≡ freed_by call.now }
 {
@@ -49,7 +49,8 @@ pub fn freed_by(call: &Call) -> Option<LraId>
     }
 }
 
-/// Of whom a command says what became of it: that it did what it was asked for, or was told.
+/// Returns the participant whose outcome a command reports: that it did what it was asked for, or
+/// was notified.
 fn said_by(command: &Command) -> Option<Called>
     ensures { result ≡ said_by command.now }
 {
@@ -62,7 +63,7 @@ fn said_by(command: &Command) -> Option<Called>
     Some(Called { id, member, of_end })
 }
 
-/// Of whom a call says so.
+/// Returns the participant whose outcome a call reports.
 pub fn heard_by(call: &Call) -> Option<Called>
     ensures { result ≡ heard_by call.now }
 {
@@ -72,7 +73,7 @@ pub fn heard_by(call: &Call) -> Option<Called>
     }
 }
 
-/// Whether what was said of a participant was entered.
+/// Whether what was reported of a participant was recorded.
 fn is_said(reply: &Reply) -> bool
     ensures { result ≡ is_said reply.now }
 {
@@ -82,7 +83,7 @@ fn is_said(reply: &Reply) -> bool
     )
 }
 
-/// Of whom it was said, if it was entered.
+/// Returns the participant whose outcome was reported, if that was recorded.
 fn heard_if(heard: &Option<Called>, reply: &Reply) -> Option<Called>
     ensures { result ≡ heard_if heard.now reply.now }
 {
@@ -106,7 +107,7 @@ fn news_by(completes: bool, reply: &CommandReply) -> News
     }
 }
 
-/// Whether after this reply other participants may be due.
+/// Returns whether other participants may be due after this reply.
 fn news_of(completes: bool, reply: &Reply) -> News
     ensures { result ≡ news_of completes reply.now }
 {
@@ -135,7 +136,7 @@ fn became_by(reply: &CommandReply) -> Became
     }
 }
 
-/// What may have become of an LRA, by this reply.
+/// Returns what may have changed of an LRA, given this reply.
 fn became_of(reply: &Reply) -> Became
     ensures { result ≡ became_of reply.now }
 {
@@ -153,8 +154,8 @@ pub fn is_taken(reply: &Reply) -> bool
     matches!(reply, Reply::Took)
 }
 
-/// What a call leaves that reported a completion or didn't, said that a participant of an LRA was told
-/// or of somebody what became of it, or didn't, and was replied so.
+/// Returns the effects of a call with this reply: whether it reported a completion, and if it named
+/// one, the LRA of which a participant was notified and the participant whose outcome it reported.
 pub fn noted_by(
     completes: bool,
     freed: &Option<LraId>,
@@ -172,7 +173,7 @@ pub fn noted_by(
     }
 }
 
-/// Whether that is anything.
+/// Whether there are any effects.
 pub fn is_any(noted: &Noted) -> bool
     ensures { MatchBool result (noted.now ≡ nothing → ⊥) (noted.now ≡ nothing) }
 {
@@ -194,8 +195,8 @@ pub fn is_stored(reply: &Reply) -> bool
     }
 }
 
-/// Whether a fact of the node's own was stored before this reply, and not one that another node
-/// told.
+/// Whether a fact of the node's own was stored before this reply, rather than a fact that another
+/// node sent.
 pub fn is_own_fact(reply: &Reply) -> bool
     ensures { result ≡ is_own reply.now }
 {

@@ -1,4 +1,4 @@
-// What came of a purge by a sweep.
+// Works out the result of a purge by a sweep.
 ghost use Rattle.std.specs.Prelude.{◌≡◌};
 ghost use Rattle.lra_noting.specs.Purging.{purged_by, purged_in, put_off_by};
 
@@ -6,7 +6,7 @@ use lra_book::Reply;
 use lra_facts::{CommandReply, Refusal};
 use lra_mailbox::Purged;
 
-/// What comes of a purge that is refused.
+/// Returns the result of a purge that is refused.
 fn put_off_by(refusal: Refusal) -> Purged
     ensures { result ≡ put_off_by refusal }
 {
@@ -27,7 +27,7 @@ fn purged_in(reply: &CommandReply) -> Purged
     }
 }
 
-/// What came of a purge by a sweep, by its reply.
+/// Returns the result of a purge by a sweep, given its reply.
 pub fn purged_by(reply: &Reply) -> Purged
     ensures { result ≡ purged_by reply.now }
 {
