@@ -1,5 +1,5 @@
-// The threads that take connections. They outlive the runs of their node, so that none is lost while
-// one run follows another.
+// The threads that accept connections. They outlive the runs of their node, so that no connection
+// is lost while one run follows another.
 
 use crate::node::Node;
 use lra_sockets::{take_in, take_in_first, wait_for_room};
@@ -7,7 +7,7 @@ use std::net::TcpListener;
 use std::sync::Wait;
 use std::time::Clock;
 
-/// Takes connections and puts them on the node's queue, until the program is to end.
+/// Accepts connections and puts them on the node's queue, until the program is to end.
 pub fn accept<R: Wait + Clock>(rt: &R, node: &Node, listener: &TcpListener) {
     for came in listener.incoming() {
         if came.is_ok() {
@@ -21,8 +21,8 @@ pub fn accept<R: Wait + Clock>(rt: &R, node: &Node, listener: &TcpListener) {
     }
 }
 
-/// The same of those that come to the operators' port. They go before clients' connections where no
-/// file is left.
+/// Does the same for connections to the operators' port. They take precedence over clients'
+/// connections if no file is left.
 pub fn accept_operators<R: Wait + Clock>(rt: &R, node: &Node, listener: &TcpListener) {
     for came in listener.incoming() {
         take_in_first(rt, &node.operators, &node.queue, came);

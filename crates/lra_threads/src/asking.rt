@@ -1,4 +1,4 @@
-// The thread that pulls from the other nodes of its process in turn. It outlives the runs of its
+// The thread that pulls in turn from the other nodes of its process. It outlives the runs of its
 // node.
 
 use crate::counts::Pull;
@@ -17,7 +17,8 @@ use std::time::{Clock, Duration};
 /// How long another node may be silent.
 const PATIENCE_MS: u64 = 5_000;
 
-/// How long it may be where it holds the pull until there is something new, for five seconds at most.
+/// How long another node may be silent if it holds the pull until there is something new, which
+/// takes at most five seconds.
 const WAITING_MS: u64 = 8_000;
 
 /// How long its whole answer may take, over a slow line.
@@ -26,14 +27,14 @@ const FRAME_MS: u64 = 300_000;
 /// How long a node pauses after each pull.
 const PAUSE_MS: u64 = 50;
 
-/// How long a round over all other nodes takes at least where something is new.
+/// The least time for a round over all other nodes while something is new.
 const SHORT_ROUND_MS: u64 = 500;
 
-/// How long it takes at rest.
+/// The time for a round while nothing is new.
 const LONG_ROUND_MS: u64 = 5_000;
 
-/// What another node has beyond a front, over a connection to it, at once or once there is something
-/// new; or why nothing can be had of it.
+/// Pulls what another node has beyond a front over a connection to it, at once or when there is
+/// something new; or returns why nothing was received.
 pub(crate) fn pull_over<'a, R: Wait + Clock>(
     rt: &'a R,
     alloc: Global,
@@ -88,13 +89,13 @@ fn pull_one<R: Wait + Clock + Sockets>(rt: &R, alloc: Global, node: &Node, other
     }
 }
 
-/// How long a pause after a pull is, by how long a round is to take.
+/// Returns how long to pause after a pull, if a round is to take this long.
 fn pause_of(node: &Node, round_ms: u64) -> Duration {
     let others = u64::from(node.nodes.saturating_sub(1)).max(1);
     Duration::from_millis(round_ms.checked_div(others).unwrap_or(round_ms))
 }
 
-/// The node after this one, save the one that asks.
+/// Returns the node after this one, skipping the node that asks.
 fn next_other(node: &Node, other: u8) -> u8 {
     let next = if other >= node.nodes { 1 } else { other + 1 };
     if next != node.number() {
@@ -103,7 +104,8 @@ fn next_other(node: &Node, other: u8) -> u8 {
     if next >= node.nodes { 1 } else { next + 1 }
 }
 
-/// The next node in turn that told more than was seen, or else the next one.
+/// Returns the next node in turn that announced more than was seen; if there is none, the next
+/// node.
 fn next_teller(node: &Node, other: u8, told: &NewsCounts, seen: &NewsCounts) -> u8 {
     let mut next = other;
     for _turn in 0..node.nodes {
@@ -115,11 +117,12 @@ fn next_teller(node: &Node, other: u8, told: &NewsCounts, seen: &NewsCounts) -> 
     next_other(node, other)
 }
 
-/// Pulls from the other nodes, until the program is to end: from one that told that it has
-/// something new at once, if there was a pause after the last pull; and from each in turn, about
-/// twice a second while that brings anything, every five seconds at rest. `follow` waits for room,
-/// for one other node; this gives up, as it has more to ask. It begins once it is known how many
-/// facts the node has, or each other node would first tell all that there is.
+/// Pulls from the other nodes, until the program is to end. It pulls at once from a node that
+/// announced something new, if there was a pause after the last pull; and from each in turn, about
+/// twice a second while that brings anything, and every five seconds otherwise. `follow`, which
+/// serves one other node, waits for room; this function gives up, because it has more nodes to ask.
+/// It begins once the number of the node's facts is known, because otherwise each other node would
+/// first send everything that there is.
 pub fn pull_in_turn<R: Wait + Clock + Sockets>(rt: &R, alloc: Global, node: &Node) {
     node.mailbox.want_count(rt);
     if node.mailbox.wait_for_count(rt) {

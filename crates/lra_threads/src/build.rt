@@ -3,9 +3,9 @@ ghost use Rattle.std.specs.Prelude.{◌≡◌, IfOk, string_bytes};
 
 use std::alloc::{AllocError, Global};
 
-/// Which build of the program runs: the version of its release, the commit that this was made from, and the
-/// kit that proved it. (It owns its texts: the borrow checker doesn't cover the threads of a run where what
-/// they share names `'static`.)
+/// Which build of the program runs: the version of its release, the commit that it was made from,
+/// and the kit that proved it. (It owns its texts: the borrow checker doesn't cover the threads of
+/// a run if what they share names `'static`.)
 #[derive(Drop)]
 pub struct Build {
     pub version: String,
@@ -14,7 +14,7 @@ pub struct Build {
 }
 
 impl Build {
-    /// The build of which a program says this.
+    /// Makes the description of a build from these texts.
     pub fn said(alloc: Global, version: &str, commit: &str, kit: &str) -> Result<Build, AllocError>
         ensures { IfOk result (λ build. (string_bytes build.version ≡ version.now)
             × (string_bytes build.commit ≡ commit.now) × (string_bytes build.kit ≡ kit.now)) }
@@ -26,7 +26,7 @@ impl Build {
         })
     }
 
-    /// The same, for a node of its own.
+    /// Copies it for another node.
     pub fn copied(&self, alloc: Global) -> Result<Build, AllocError>
         ensures { IfOk result (λ build. (string_bytes build.version ≡ string_bytes self.now.version)
             × (string_bytes build.commit ≡ string_bytes self.now.commit)

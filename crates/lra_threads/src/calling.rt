@@ -20,7 +20,7 @@ use url::{Host, Url};
 /// How long a participant may take to be reached, to take its request, and to answer, each.
 const PATIENCE_MS: u64 = 10_000;
 
-/// A connection to the host of a link.
+/// Connects to the host of a link.
 fn connect<R: Wait + Clock + Net<Stream = TcpStream>>(
     rt: &R,
     alloc: Global,
@@ -51,12 +51,12 @@ fn connect<R: Wait + Clock + Net<Stream = TcpStream>>(
     }
 }
 
-/// A duty for which nobody could be called, or whose call was lost.
+/// Returns a duty for which no participant could be called, or whose call was lost.
 fn without_answer(due: Due, came: Came) -> Result<Letter, Unheard> {
     Err(Unheard { due, came })
 }
 
-/// A caller over a connection.
+/// Makes a caller over a connection.
 fn caller_over<'a, R: Wait + Clock>(
     rt: &'a R,
     alloc: Global,
@@ -77,7 +77,7 @@ fn caller_over<'a, R: Wait + Clock>(
     Some(NetCaller::new(reader, writer))
 }
 
-/// Calls a participant, and hears its answer, if there is one that counts.
+/// Calls a participant, and returns its answer, if one came that counts.
 fn call_one<R: Wait + Clock + Sockets>(
     rt: &R,
     alloc: Global,
@@ -96,7 +96,7 @@ fn call_one<R: Wait + Clock + Sockets>(
     }
 }
 
-/// What was heard, if something was.
+/// Returns what was learned, if anything.
 fn heard_of(came: &Result<Letter, Unheard>) -> Option<Heard> {
     match came {
         Ok(letter) => Some(letter.heard()),
@@ -104,7 +104,7 @@ fn heard_of(came: &Result<Letter, Unheard>) -> Option<Heard> {
     }
 }
 
-/// Warns of a participant that is called in vain, or tells that it answers.
+/// Warns of a participant whose calls fail, or reports that it answers again.
 fn warn_of<L: Log>(log: &L, node: &Node, plight: &Plight) {
     let id = plight.id.to_text();
     let id = str::from_utf8(&id).unwrap_or("");
@@ -118,8 +118,8 @@ fn warn_of<L: Log>(log: &L, node: &Node, plight: &Plight) {
     }
 }
 
-/// Calls participants, one after another, until the program is to end. It warns of those that are
-/// called in vain for a minute.
+/// Calls participants, one after another, until the program is to end. It warns of those whose
+/// calls have failed for a minute.
 pub fn call_out<R: Wait + Clock + Sockets, L: Log>(rt: &R, log: &L, alloc: Global, node: &Node) {
     for _ in rt.forever() {
         let Some(due) = node.mailbox.next_duty(rt) else {

@@ -1,6 +1,6 @@
-// What the threads of a node count, to be told at its operator's port. The counts stand under one
-// lock and not in forty atomics, so a page shows them as of one moment. No thread holds it while it
-// waits for anything.
+// What the threads of a node count, for its operator's port. The counts stand under one lock and
+// not in forty atomics, so that a page shows them all as of one moment. No thread holds the lock
+// while it waits for anything.
 
 use lra_callback::{Heard, Kind};
 use lra_id::{MAX_NODES, Outcome};
@@ -21,19 +21,19 @@ pub const CALL_NAMES: [&str; CALLS] = [
 /// How many refusals there are.
 pub const REFUSALS: usize = 24;
 
-/// Why runs are over, as it is counted.
+/// Why runs end, as far as that is counted.
 pub const RUNS: [&str; 6] = ["full", "E18", "E19", "E20", "E21", "starved"];
 
 /// What participants are called for.
 pub const KINDS: [&str; 5] = ["complete", "compensate", "status", "forget", "after"];
 
-/// What is heard of them.
+/// What participants answer.
 pub const HEARD: [&str; 5] = ["done", "failed", "busy", "told", "again"];
 
-/// What comes of pulls.
+/// The results of pulls.
 pub const PULLS: [&str; 4] = ["new", "nothing", "failed", "refused"];
 
-/// What comes of purges.
+/// The results of purges.
 pub const SWEPT: [&str; 6] = ["gone", "nested", "waits", "later", "changed", "missing"];
 
 /// What a call of the desk asks for, as it is counted.
@@ -60,7 +60,7 @@ pub enum Asked {
 }
 
 impl Asked {
-    /// Its place among the names.
+    /// Returns its position among the names.
     fn place(self) -> usize {
         match self {
             Asked::Begin => 0,
@@ -85,13 +85,13 @@ impl Asked {
     }
 }
 
-/// What a pull came to, as it is counted.
+/// The result of a pull, as it is counted.
 #[derive(Clone, Copy, PartialEq, Eq)]
 pub(crate) enum Pull {
     New,
     Nothing,
     Failed,
-    /// What was told can't be taken.
+    /// What was sent can't be taken.
     Refused,
 }
 
@@ -106,7 +106,7 @@ impl Pull {
     }
 }
 
-/// The place of what a participant is called for.
+/// Returns the position of what a participant is called for.
 pub(crate) fn kind_place(kind: Kind) -> usize {
     match kind {
         Kind::Complete => 0,
@@ -117,7 +117,7 @@ pub(crate) fn kind_place(kind: Kind) -> usize {
     }
 }
 
-/// The place of what was heard.
+/// Returns the position of what a participant answered.
 fn heard_place(heard: Option<Heard>) -> usize {
     match heard {
         Some(Heard::Outcome(Outcome::Done)) => 0,
@@ -128,7 +128,7 @@ fn heard_place(heard: Option<Heard>) -> usize {
     }
 }
 
-/// The place of why a run is over, if that is counted.
+/// Returns the position of why a run is over, if that is counted.
 fn run_place(reason: StopReason) -> Option<usize> {
     match reason {
         StopReason::Program => None,
@@ -152,7 +152,7 @@ fn swept_place(purged: Purged) -> usize {
     }
 }
 
-/// One more.
+/// Adds to a count.
 fn add(count: Option<&mut u64>, more: u64) {
     if let Some(count) = count {
         *count = count.saturating_add(more);
@@ -165,9 +165,9 @@ pub struct Numbers {
     pub calls: [u64; CALLS],
     pub refused: [u64; REFUSALS],
     pub runs: [u64; 6],
-    /// By kind, and by what was heard.
+    /// By kind, and by what was answered.
     pub callbacks: [[u64; 5]; 5],
-    /// By node, and by what came of it.
+    /// By node, and by result.
     pub pulls: [[u64; 4]; MAX_NODES as usize],
     /// When a pull from each node last succeeded.
     pub pulled: [Option<Duration>; MAX_NODES as usize],
@@ -211,14 +211,14 @@ impl Counts {
         }
     }
 
-    /// Counts a run that is over.
+    /// Counts a run that ended.
     pub fn run<R: Wait>(&self, rt: &R, reason: StopReason) {
         if let Some(place) = run_place(reason) {
             add(self.numbers.lock(rt).runs.get_mut(place), 1);
         }
     }
 
-    /// Counts a call of a participant, by what was heard.
+    /// Counts a call of a participant, by its answer.
     pub(crate) fn callback<R: Wait>(&self, rt: &R, kind: Kind, heard: Option<Heard>) {
         let mut numbers = self.numbers.lock(rt);
         if let Some(row) = numbers.callbacks.get_mut(kind_place(kind)) {
@@ -226,7 +226,7 @@ impl Counts {
         }
     }
 
-    /// Counts a pull from another node that came to this at a moment.
+    /// Counts a pull from another node that had this result at a moment.
     pub(crate) fn pull<R: Wait>(&self, rt: &R, other: u8, pull: Pull, now: Duration) {
         let place = usize::from(other.saturating_sub(1));
         let mut numbers = self.numbers.lock(rt);
@@ -245,25 +245,25 @@ impl Counts {
         add(self.numbers.lock(rt).swept.get_mut(swept_place(purged)), 1);
     }
 
-    /// Counts a failure of the journal, or a try to open it again that failed.
+    /// Counts a failure of the journal, or a failed try to open it again.
     pub fn failure<R: Wait>(&self, rt: &R) {
         let mut numbers = self.numbers.lock(rt);
         numbers.failures = numbers.failures.saturating_add(1);
     }
 
-    /// Counts a connection that was taken.
+    /// Counts an accepted connection.
     pub(crate) fn accept<R: Wait>(&self, rt: &R) {
         let mut numbers = self.numbers.lock(rt);
         numbers.accepted = numbers.accepted.saturating_add(1);
     }
 
-    /// Counts connections that were closed for want of files.
+    /// Counts connections that were closed for lack of files.
     pub(crate) fn close<R: Wait>(&self, rt: &R, count: u64) {
         let mut numbers = self.numbers.lock(rt);
         numbers.closed = numbers.closed.saturating_add(count);
     }
 
-    /// All as they are now.
+    /// Returns all counts as they are now.
     pub fn numbers<R: Wait>(&self, rt: &R) -> Numbers {
         *self.numbers.lock(rt)
     }

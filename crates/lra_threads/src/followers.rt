@@ -1,4 +1,4 @@
-// How the nodes stand that pull from this one.
+// The state of the nodes that pull from this one.
 
 ghost use Rattle.std.specs.Prelude.{◌≤◌};
 ghost use Rattle.lra_id.specs.declared.TheConstants.{MAX_NODES};
@@ -10,23 +10,23 @@ use lra_sockets::now;
 use std::sync::{Mutex, Wait};
 use std::time::{Clock, Duration};
 
-/// For how long one waits for copies at the least: in less nobody may acknowledge.
+/// The least time to wait for copies: in less time no node may acknowledge.
 const LEAST_MS: u64 = 50;
 
-/// How many other nodes are to have a fact before who may have seen it goes on, and for how long one
-/// waits for that.
+/// How many other nodes are to have a fact before answers that may show it are sent, and how long
+/// these wait for that.
 #[derive(Clone, Copy)]
 pub struct Wants {
-    /// 0 for nobody waits.
+    /// 0 if nothing waits.
     pub copies: u8,
     pub patience_ms: u64,
-    /// Whether nothing is acknowledged after that, and nothing entered while too few have what is
-    /// stored.
+    /// Whether, after that time, nothing is acknowledged, and nothing is stored while too few nodes
+    /// have what is already stored.
     pub is_strict: bool,
 }
 
 impl Wants {
-    /// Nobody waits.
+    /// Makes it that nothing waits.
     pub fn none() -> Wants {
         Wants {
             copies: 0,
@@ -35,21 +35,21 @@ impl Wants {
         }
     }
 
-    /// Whether anybody waits.
+    /// Whether anything waits.
     pub fn any(&self) -> bool {
         self.copies > 0
     }
 }
 
-/// Participants that wait no longer, if they are to be called, and whether it is to be asked again who
-/// is.
+/// Participants that wait no longer, if they are to be called, and whether a new list of duties is
+/// asked for.
 #[derive(Drop)]
 pub(crate) struct Released {
     pub(crate) duties: Option<Duties>,
     pub(crate) asks_again: bool,
 }
 
-/// How answers and lists went on that waited.
+/// How the answers and lists that waited went on.
 #[derive(Clone, Copy)]
 pub struct Waited {
     /// How many had as many copies as are wanted, and how many hadn't.
@@ -57,27 +57,27 @@ pub struct Waited {
     pub late: u64,
 }
 
-/// What lies under the lock.
+/// What the lock guards.
 #[derive(Drop)]
 struct Held {
     copies: Copies,
     pacing: Pacing,
     waiters: Waiters,
-    /// Participants and listeners that wait to be called; none where their list is too old.
+    /// Participants and listeners that wait to be called; `None` if their list is too old.
     duties: Option<Duties>,
-    /// Whether another answered with facts of this node that it never gave: there are two processes of
-    /// this number, or its journal went back.
+    /// Whether another node answered with facts of this node that it never gave: there are two
+    /// processes with its number, or its journal went back in time.
     is_doubted: bool,
 }
 
 impl Held {
-    /// How one stands that waits for a ticket since a moment.
+    /// Returns the standing of an answer that has waited for a ticket since a moment.
     fn stand(&mut self, ticket: u64, since: Duration, moment: Duration, strict: bool) -> Standing {
         self.waiters
             .stand(&mut self.copies, ticket, since, moment, strict)
     }
 
-    /// What becomes of the participants that wait, if they don't wait on.
+    /// Returns what happens to the participants that wait, unless they go on waiting.
     fn take_called(&mut self, moment: Duration, strict: bool) -> Option<Released> {
         let fate = self.waiters.take_calls(&mut self.copies, moment, strict);
         match fate {
@@ -98,8 +98,8 @@ impl Held {
     }
 }
 
-/// How the nodes stand that pull from this one: what they have of its facts, when they are served,
-/// and who waits for that. It outlives the runs of the node.
+/// The state of the nodes that pull from this one: what they have of its facts, when they are
+/// served, and what waits for that. It outlives the runs of the node.
 #[derive(Drop)]
 pub struct Followers {
     me: NodeId,
@@ -109,7 +109,7 @@ pub struct Followers {
 }
 
 impl Followers {
-    /// Of a node of so many, which nobody has asked yet.
+    /// Makes the state of a node in a group of `nodes` nodes, which no other has asked yet.
     pub fn new(me: NodeId, nodes: u8, wants: Wants) -> Followers
         requires { (1 ≤ nodes) × (nodes ≤ MAX_NODES) }
     {
@@ -128,17 +128,17 @@ impl Followers {
         }
     }
 
-    /// What is wanted of them.
+    /// Returns what is wanted of the other nodes.
     pub fn wants(&self) -> Wants {
         self.wants
     }
 
-    /// Notes that a call begins that may store a fact of this node.
+    /// Records that a call begins that may store a fact of this node.
     pub fn begin<R: Wait>(&self, rt: &R) {
         self.held.lock(rt).copies.begin();
     }
 
-    /// Notes that it is over. It gives the ticket for which its answer waits; 0 for none.
+    /// Records that such a call is over. Returns the ticket for which its answer waits, or 0.
     pub fn end<R: Wait>(&self, rt: &R, is_stored: bool) -> u64 {
         let mut held = self.held.lock(rt);
         let ticket = held.copies.end(is_stored);
@@ -148,7 +148,7 @@ impl Followers {
         0
     }
 
-    /// For which ticket an answer waits that may show what is stored now; 0 for none.
+    /// Returns the ticket for which an answer waits that may show what is stored now, or 0.
     pub(crate) fn target<R: Wait>(&self, rt: &R) -> u64 {
         if !self.wants.any() {
             return 0;
@@ -156,26 +156,26 @@ impl Followers {
         self.held.lock(rt).copies.target()
     }
 
-    /// Notes how many facts of its own this node has.
+    /// Records how many facts of its own this node has.
     pub fn note_count<R: Wait>(&self, rt: &R, front: &Front) {
         let count = front.count(self.me);
         self.held.lock(rt).copies.note_count(count);
     }
 
-    /// Notes that a frame is asked for. It gives a ticket.
+    /// Records that a frame is asked for. Returns its ticket.
     pub fn ask<R: Wait>(&self, rt: &R) -> u64 {
         self.held.lock(rt).copies.ask()
     }
 
-    /// Notes that a frame with this front was given, which was asked for with this ticket.
+    /// Records that a frame with this front was given that was asked for with this ticket.
     pub fn give<R: Wait + Clock>(&self, rt: &R, ticket: u64, front: &Front) {
         let moment = now(rt);
         let count = front.count(self.me);
         self.held.lock(rt).copies.give(ticket, count, moment);
     }
 
-    /// Hears how many facts of this node another has stored that asks, where this one has so many. It
-    /// gives the ticket up to which as many others as are wanted have each fact.
+    /// Records how many facts of this node the pulling node has stored, given this node's own
+    /// front. Returns the ticket up to which as many other nodes as are wanted have each fact.
     pub(crate) fn hear<R: Wait + Clock>(
         &self,
         rt: &R,
@@ -190,24 +190,25 @@ impl Followers {
         held.copies.covered()
     }
 
-    /// Whether another asked as if it had facts of this node that it never gave. Anybody who can connect
-    /// may say so.
+    /// Whether another node asked as if it had facts of this node that it never gave. Anybody who
+    /// can connect may claim this.
     pub(crate) fn has_strange<R: Wait>(&self, rt: &R) -> bool {
         self.held.lock(rt).copies.has_strange()
     }
 
-    /// Has nothing entered from here on: another has facts of this node that it never gave.
+    /// Makes the node store nothing from here on, because another has facts of this node that it
+    /// never gave.
     pub(crate) fn doubt<R: Wait>(&self, rt: &R) {
         self.held.lock(rt).is_doubted = true;
     }
 
-    /// The ticket up to which as many others as are wanted have each fact.
+    /// Returns the ticket up to which as many other nodes as are wanted have each fact.
     pub fn covered<R: Wait>(&self, rt: &R) -> u64 {
         self.held.lock(rt).copies.covered()
     }
 
-    /// What becomes of a pull by another node that has so many facts of each, and has waited since a
-    /// moment, where this one has so many.
+    /// Returns what happens to a pull by another node with this front, which has waited since a
+    /// moment, given this node's own front.
     pub(crate) fn judge<R: Wait + Clock>(
         &self,
         rt: &R,
@@ -231,14 +232,14 @@ impl Followers {
         verdict
     }
 
-    /// How an answer stands that waits for a ticket since a moment.
+    /// Returns the standing of an answer that has waited for a ticket since a moment.
     pub fn stand<R: Wait + Clock>(&self, rt: &R, ticket: u64, since: Duration) -> Standing {
         let moment = now(rt);
         let mut held = self.held.lock(rt);
         held.stand(ticket, since, moment, self.wants.is_strict)
     }
 
-    /// Has participants wait for a ticket.
+    /// Makes participants wait for a ticket.
     pub(crate) fn hold_calls<R: Wait + Clock>(&self, rt: &R, duties: Duties, ticket: u64) {
         let since = now(rt);
         let mut held = self.held.lock(rt);
@@ -251,7 +252,8 @@ impl Followers {
         self.held.lock(rt).waiters.holds_calls()
     }
 
-    /// Whether participants wait. Then it is asked again who is to be called, once they don't.
+    /// Whether callbacks are on hold. If so, a new list of duties is asked for once they are
+    /// released.
     pub fn are_calls_held<R: Wait>(&self, rt: &R) -> bool {
         if !self.wants.any() {
             return false;
@@ -259,15 +261,15 @@ impl Followers {
         self.held.lock(rt).waiters.puts_off()
     }
 
-    /// What becomes of the participants that wait, if they don't wait on.
+    /// Returns what happens to the participants that wait, unless they go on waiting.
     pub(crate) fn take_calls<R: Wait + Clock>(&self, rt: &R) -> Option<Released> {
         let moment = now(rt);
         let mut held = self.held.lock(rt);
         held.take_called(moment, self.wants.is_strict)
     }
 
-    /// Whether nothing is entered, since others fell behind and that is strict, or since there are
-    /// two processes of this number, or its journal is older.
+    /// Whether nothing is stored, because other nodes fell behind and copies are strict, or because
+    /// there are two processes with this node's number, or its journal is older.
     pub fn refuses<R: Wait>(&self, rt: &R) -> bool {
         if !self.wants.any() {
             return false;
@@ -276,17 +278,17 @@ impl Followers {
         held.is_doubted || (self.wants.is_strict && held.copies.is_short())
     }
 
-    /// Whether another was heard to have facts of this node that it never gave.
+    /// Whether another node was found to have facts of this node that it never gave.
     pub fn is_doubted<R: Wait>(&self, rt: &R) -> bool {
         self.held.lock(rt).is_doubted
     }
 
-    /// Whether others fell behind for longer than one waits.
+    /// Whether other nodes fell behind for longer than an answer waits.
     pub fn is_short<R: Wait>(&self, rt: &R) -> bool {
         self.held.lock(rt).copies.is_short()
     }
 
-    /// How answers and lists went on that waited.
+    /// Returns how the answers and lists that waited went on.
     pub fn waited<R: Wait>(&self, rt: &R) -> Waited {
         let held = self.held.lock(rt);
         Waited {
@@ -295,12 +297,12 @@ impl Followers {
         }
     }
 
-    /// How many were late since this was last asked.
+    /// Returns how many were late since this was last asked.
     pub(crate) fn take_late<R: Wait>(&self, rt: &R) -> u64 {
         self.held.lock(rt).waiters.take_untold()
     }
 
-    /// How many facts of this node another told that it stored.
+    /// Returns how many facts of this node another reported to have stored.
     pub fn told<R: Wait>(&self, rt: &R, other: NodeId) -> u64 {
         self.held.lock(rt).copies.told(other)
     }
@@ -312,13 +314,13 @@ impl Followers {
         held.pacing.do_all_listen(self.me, self.nodes, moment)
     }
 
-    /// Notes that a run ends.
+    /// Records that a run ends.
     pub(crate) fn note_end<R: Wait + Clock>(&self, rt: &R) {
         let moment = now(rt);
         self.held.lock(rt).pacing.note_end(moment);
     }
 
-    /// Notes that the next one has begun.
+    /// Records that the next run has begun.
     pub fn note_begun<R: Wait + Clock>(&self, rt: &R) {
         let moment = now(rt);
         self.held.lock(rt).pacing.note_begun(moment);

@@ -1,4 +1,4 @@
-// The threads that pull from nodes in processes of their own, one from each. They outlive the runs
+// The threads that pull from nodes in processes of their own, one for each. They outlive the runs
 // of their node.
 
 use crate::asking::pull_over;
@@ -14,10 +14,11 @@ use std::alloc::Global;
 use std::sync::Wait;
 use std::time::{Clock, Duration};
 
-/// How long is waited at most until what was told is taken. Then the other is asked once more.
+/// How long to wait at most until what was received is taken. Then the other node is asked once
+/// more.
 const TAKING_MS: u64 = 200;
 
-/// Hands over what another node told, if that is more than a front counts. It says whether it did.
+/// Hands over what another node sent, if that is more than a front counts. Returns whether it did.
 fn hand_over<R: Wait>(rt: &R, node: &Node, front: &Front, telling: Telling) -> bool {
     if telling.front().below(front) {
         return false;
@@ -25,8 +26,8 @@ fn hand_over<R: Wait>(rt: &R, node: &Node, front: &Front, telling: Telling) -> b
     node.mailbox.hand_over(rt, telling)
 }
 
-/// What was handed over came to, which has this front, where so many tellings had ended before. The
-/// next pull tells that it is taken.
+/// Returns the result of a pull whose telling, with this front, was handed over when `seen`
+/// tellings had ended. The next pull reports that it is taken.
 fn handed<R: Wait + Clock>(rt: &R, node: &Node, other: NodeId, seen: u64, told: &Front) -> Pulled {
     let time = Duration::from_millis(TAKING_MS);
     if node.mailbox.wait_until_taken(rt, other, seen, told, time) {
@@ -38,8 +39,8 @@ fn handed<R: Wait + Clock>(rt: &R, node: &Node, other: NodeId, seen: u64, told: 
     }
 }
 
-/// What comes of what another node told, beyond the front from which it was asked. It had begun anew so
-/// often then.
+/// Decides what to do with what another node sent, beyond the front from which it was asked. `anew`
+/// is how often that node had begun anew then.
 fn take_over<R: Wait + Clock>(
     rt: &R,
     node: &Node,
@@ -60,7 +61,7 @@ fn take_over<R: Wait + Clock>(
         return Pulled::Untaken;
     }
     let is_older = told.count(other) < front.count(other);
-    // What this node gave until now it knows of.
+    // This node knows of every fact that it gave until now.
     let is_newer = told.count(node.me) > node.mailbox.front(rt).count(node.me);
     if is_newer && was_open {
         node.doubt(rt);
@@ -82,7 +83,7 @@ fn take_over<R: Wait + Clock>(
     Pulled::Nothing
 }
 
-/// What a pull is counted as.
+/// Returns how a pull is counted.
 fn counted(pulled: Pulled) -> Pull {
     match pulled {
         Pulled::New | Pulled::Untaken | Pulled::Kept => Pull::New,
@@ -92,7 +93,8 @@ fn counted(pulled: Pulled) -> Pull {
     }
 }
 
-/// Pulls from another node once, at once or once there is something new, and hands over what is.
+/// Pulls from another node once, at once or when there is something new, and hands over what is
+/// new.
 fn pull_once<R: Wait + Clock + Sockets>(
     rt: &R,
     alloc: Global,
@@ -111,7 +113,7 @@ fn pull_once<R: Wait + Clock + Sockets>(
     }
 }
 
-/// What a pull came to, once what it handed over was looked at.
+/// Returns the result of a pull, after what it handed over was looked at.
 fn came_to(node: &Node, other: NodeId, pulled: Pulled) -> Pulled {
     match node.take_refused(other) {
         Some(number) => Pulled::Refused(number),
@@ -119,7 +121,7 @@ fn came_to(node: &Node, other: NodeId, pulled: Pulled) -> Pulled {
     }
 }
 
-/// What is wrong with one of which nothing can be had.
+/// Returns what is wrong with a node from which nothing was received.
 fn fault_of(pulled: Pulled) -> Option<&'static str> {
     match pulled {
         Pulled::Unreached => Some("can't be reached"),
@@ -129,7 +131,7 @@ fn fault_of(pulled: Pulled) -> Option<&'static str> {
     }
 }
 
-/// Warns of what is odd in what another node tells, once until it is well again.
+/// Warns of what is odd in what another node sends, once until all is well again.
 fn warn_of_odd<L: Log>(log: &L, number: u8, other: NodeId, pulled: Pulled, outlook: &mut Outlook) {
     let other = other.number();
     match pulled {
@@ -158,8 +160,8 @@ fn warn_of_odd<L: Log>(log: &L, number: u8, other: NodeId, pulled: Pulled, outlo
 }
 
 /// Counts a pull that began at a moment, and warns of what it shows of another node: that nothing
-/// can be had of it, that it answers again, that a journal is older than what its node told before,
-/// and that what it tells can't be taken.
+/// is received from it, that it answers again, that a journal is older than what its node sent
+/// before, and that what it sends can't be taken.
 fn warn_of<R: Wait + Clock, L: Log>(
     rt: &R,
     log: &L,
@@ -184,8 +186,8 @@ fn warn_of<R: Wait + Clock, L: Log>(
     warn_of_odd(log, number, other, pulled, outlook);
 }
 
-/// Pauses before a pull, and waits for news of the other node. It gives how often that told news;
-/// nothing where the program is to end.
+/// Pauses before a pull, and waits for news of the other node. Returns how often that node
+/// announced news, or `None` if the program is to end.
 fn rest_before<R: Wait + Clock>(
     rt: &R,
     node: &Node,
@@ -200,12 +202,12 @@ fn rest_before<R: Wait + Clock>(
     node.news.wait_for(rt, other.number(), seen, time)
 }
 
-/// Pulls from another node, until the program is to end. A pull waits there until there is something
-/// new, once the node is heard; the next one follows at once. Where it can't wait, as at a member of
-/// an older version, it is asked at once where it is known to have something new, or is to hear that
-/// this one has, if there was a pause after the last pull; else twice a second while that brings
-/// anything, and every five seconds at rest. One that wasn't heard yet is tried sooner. What can't be
-/// taken is asked for again after a round.
+/// Pulls from another node, until the program is to end. Once the node has answered, a pull waits
+/// there until there is something new, and the next one follows at once. If a pull can't wait, as
+/// at a member of an older version, the node is asked at once if it is known to have something new,
+/// or is to learn that this one has, provided there was a pause after the last pull; otherwise
+/// twice a second while that brings anything, and every five seconds while it doesn't. A node that
+/// hasn't answered yet is tried sooner. What can't be taken is asked for again after a round.
 pub fn follow<R: Wait + Clock + Sockets, L: Log>(
     rt: &R,
     log: &L,

@@ -1,6 +1,7 @@
-//! The threads of a node that know no journal, one in each file: who accepts, who calls
-//! participants, who pulls, who watches; and what they share (`Node`): the mailbox, counts, news.
-//! Lines for standard error, and the program's end, are of all nodes.
+//! The threads of a node that know no journal, one in each file: the thread that accepts
+//! connections, those that call participants, those that pull, and the one that watches; and what
+//! they share (`Node`): the mailbox, counts, news. The lines for standard error, and the program's
+//! end, belong to all nodes.
 #![tactic(auto)]
 
 mod accepting;

@@ -1,5 +1,5 @@
-// Lines for standard error, which a thread of their own writes: nobody waits for who doesn't read
-// them.
+// Lines for standard error, which a thread of their own writes: nothing waits for a reader that
+// doesn't read them.
 
 use log::kv::Source;
 use log::span::Spans;
@@ -12,10 +12,10 @@ use std::thread;
 use std::thread::Threads;
 use std::time::{Clock, Duration};
 
-/// How many lines wait to be written at most.
+/// The most lines that wait to be written.
 const MAX_LINES: usize = 256;
 
-// What lies under the lock.
+// What the lock guards.
 #[derive(Drop)]
 struct Queued {
     lines: VecDeque<String>,
@@ -46,7 +46,7 @@ impl Lines {
         }
     }
 
-    /// Puts a line last. It is dropped, and counted, where too many wait or there is no memory.
+    /// Puts a line last. It is dropped, and counted, if too many wait or memory runs out.
     fn put<R: Wait>(&self, rt: &R, line: String) {
         let mut queued = self.queued.lock(rt);
         self.came.notify_one();
@@ -59,14 +59,14 @@ impl Lines {
         }
     }
 
-    /// Counts a line for which there was no memory.
+    /// Counts a line that was lost because memory ran out.
     fn note_dropped<R: Wait>(&self, rt: &R) {
         let mut queued = self.queued.lock(rt);
         queued.dropped = queued.dropped.saturating_add(1);
         self.came.notify_one();
     }
 
-    /// Waits for the next line. It gives how many were dropped before, too.
+    /// Waits for the next line. Returns it, and how many were dropped before it.
     fn next<R: Wait>(&self, rt: &R) -> (u64, Option<String>) {
         let mut queued = self.came.wait_while(rt, self.queued.lock(rt), |queued| {
             queued.lines.is_empty() && queued.dropped == 0
@@ -77,13 +77,13 @@ impl Lines {
         (dropped, queued.lines.pop_front())
     }
 
-    /// Notes that a line is written.
+    /// Records that a line is written.
     fn note_written<R: Wait>(&self, rt: &R) {
         self.queued.lock(rt).is_writing = false;
         self.written.notify_all();
     }
 
-    /// Waits until all lines are written; so long at most.
+    /// Waits until all lines are written, but at most this long.
     pub fn wait<R: Wait + Clock>(&self, rt: &R, time: Duration) {
         let _waited = self
             .written
@@ -110,7 +110,8 @@ fn write_lines<R: Wait + Eprint>(rt: &R, lines: &Lines) {
     }
 }
 
-/// Lines that a thread writes to standard error; none where no thread or no memory can be had.
+/// Makes lines that a thread writes to standard error; `None` if no thread or no memory is to be
+/// had.
 pub fn lines_of<R: Threads, H: Wait + Eprint + Send + Drop + 'static>(
     rt: &R,
     host: H,

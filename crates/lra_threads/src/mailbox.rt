@@ -1,5 +1,6 @@
-// What the threads that call and pull hand to the thread that enters, and what it hands to them. It
-// outlives the runs of a node, so a participant that is slow to answer holds up no run.
+// What the caller and puller threads hand to the writer thread, and what it hands to them. The
+// mailbox outlives the runs of a node, so that a participant that is slow to answer holds up no
+// run.
 
 ghost use Rattle.std.specs.Prelude.{◌≤◌};
 ghost use Rattle.lra_id.specs.declared.TheConstants.{MAX_NODES};
@@ -16,18 +17,19 @@ use std::sync::atomic::{AtomicBool, Ordering};
 use std::sync::{Condvar, CondvarTimeouts, Mutex, Wait};
 use std::time::{Clock, Duration};
 
-/// How many nodes there are at most.
+/// The most nodes that there are.
 const NODES: usize = MAX_NODES as usize;
 
-/// How long the thread that enters rests at most.
+/// How long the writer thread rests at most.
 const REST_MS: u64 = 250;
 
-/// How long it is until what the journal couldn't take is tried again: at first, and at most.
+/// How long it takes until what the journal couldn't take is tried again: the first time, and at
+/// most.
 const SHORT_KEPT_MS: u64 = 500;
 
 const LONG_KEPT_MS: u64 = 16_000;
 
-/// Whether what is kept, if anything, tells something beyond a front.
+/// Whether a kept telling, if there is one, has something beyond a front.
 fn is_beyond(kept: &Option<Telling>, front: &Front) -> bool {
     match kept {
         Some(telling) => !telling.front().below(front),
@@ -35,33 +37,34 @@ fn is_beyond(kept: &Option<Telling>, front: &Front) -> bool {
     }
 }
 
-/// What lies under the lock.
+/// What the lock guards.
 #[derive(Drop)]
 struct Held {
     alloc: Global,
     state: MailboxState,
     /// How many facts of its own each other node counted when it asked.
     asks: Asks,
-    /// Whose last call was in vain, where it was called.
+    /// The participants whose last call failed, and where they were called.
     sought: Vec<Sought>,
-    /// Of each node how many of its tellings were taken, or weren't.
+    /// For each node, how many of its tellings were taken, or given up.
     ended: [u64; NODES],
-    /// What each node told that couldn't be taken.
+    /// For each node, a telling that couldn't be taken.
     kept: [Option<Telling>; NODES],
-    /// At which place the next one is looked for, when it is tried, and how long the pause is then.
+    /// Where the search for the next kept telling begins, when it is tried, and how long the next
+    /// pause is.
     kept_place: usize,
     kept_at: Duration,
     kept_pause: Duration,
 }
 
 impl Held {
-    /// How many tellings of another node were taken, or weren't.
+    /// Returns how many tellings of another node were taken, or given up.
     fn ended(&self, other: NodeId) -> u64 {
         let place = usize::from(other.number().saturating_sub(1));
         self.ended.get(place).copied().unwrap_or(0)
     }
 
-    /// Notes that one more is.
+    /// Counts one more.
     fn note_end(&mut self, other: NodeId) {
         let place = usize::from(other.number().saturating_sub(1));
         if let Some(ended) = self.ended.get_mut(place) {
@@ -69,13 +72,14 @@ impl Held {
         }
     }
 
-    /// Notes the end of a telling, which was taken or wasn't.
+    /// Records the end of a telling, which was taken or wasn't.
     fn end_telling(&mut self, other: NodeId, front: &Front, is_taken: bool) {
         self.state.end_telling(other, front, is_taken);
         self.note_end(other);
     }
 
-    /// Puts one in place of what is kept there. It gives back what isn't kept then, if there is one.
+    /// Keeps a telling in place of the one that is kept there. Returns the one that is then not
+    /// kept, if any.
     fn replace_kept(&mut self, place: usize, telling: Telling) -> Option<Telling> {
         match self.kept.get_mut(place) {
             Some(kept) => kept.replace(telling),
@@ -83,7 +87,7 @@ impl Held {
         }
     }
 
-    /// Whether what is kept of the node at a place tells something beyond a front.
+    /// Whether the telling that is kept for the node at a place has something beyond a front.
     fn keeps_more(&self, place: usize, front: &Front) -> bool {
         match self.kept.get(place) {
             Some(kept) => is_beyond(kept, front),
@@ -91,9 +95,9 @@ impl Held {
         }
     }
 
-    /// Keeps what couldn't be taken, in place of what its node told before, unless that is more: so
-    /// nothing is lost of a node that told more before its journal went back. It gives back the one
-    /// that isn't kept, if there are two.
+    /// Keeps a telling that couldn't be taken, in place of an earlier one of its node, unless that
+    /// has more. So nothing is lost of a node that sent more before its journal went back in time.
+    /// Returns the one that isn't kept, if there are two.
     fn keep(&mut self, telling: Telling) -> Option<Telling> {
         let (from, front) = (telling.from(), telling.front());
         let place = usize::from(from.number().saturating_sub(1));
@@ -108,14 +112,14 @@ impl Held {
         other
     }
 
-    /// Has what is kept tried again after a pause, which doubles each time.
+    /// Puts off the next try of a kept telling by a pause, which doubles each time.
     fn pause_kept(&mut self, now: Duration) {
         self.kept_at = now.saturating_add(self.kept_pause);
         let longest = Duration::from_millis(LONG_KEPT_MS);
         self.kept_pause = self.kept_pause.saturating_mul(2).min(longest);
     }
 
-    /// Whether one is kept of the node at a place.
+    /// Whether a telling is kept for the node at a place.
     fn is_kept(&self, place: usize) -> bool {
         match self.kept.get(place) {
             Some(kept) => kept.is_some(),
@@ -123,7 +127,7 @@ impl Held {
         }
     }
 
-    /// The next one that is kept, of each node in turn.
+    /// Takes the next kept telling, node by node in turn.
     fn next_kept(&mut self) -> Option<Telling> {
         for step in 0..NODES {
             let place = self.kept_place.saturating_add(step) % NODES;
@@ -138,8 +142,8 @@ impl Held {
         None
     }
 
-    /// Has what was kept taken next, if nothing else waits for that, and the pause is over. What is here
-    /// by now isn't.
+    /// Makes a kept telling be taken next, if no other waits and the pause is over. A telling whose
+    /// facts are here by now is dropped.
     fn put_kept(&mut self, now: Duration) {
         if self.state.has_telling() || now < self.kept_at {
             return;
@@ -155,7 +159,8 @@ impl Held {
         }
     }
 
-    /// Puts what came of a call that took so long. It gives what is to be told of calls in vain.
+    /// Records the result of a call that took this long. Returns what is to be logged of failing
+    /// calls.
     fn hear(
         &mut self,
         time: Duration,
@@ -172,7 +177,7 @@ impl Held {
         self.state.hear(time, came, now)
     }
 
-    /// Those who are called in vain, who is so for longest first.
+    /// Returns the participants whose calls fail, those that have failed for longest first.
     fn plaints(&mut self, alloc: Global, now: Duration) -> Result<Vec<Plaint>, AllocError> {
         forget_found(&mut self.sought, self.state.calls());
         plaints_of(&self.sought, self.state.calls(), alloc, now)
@@ -183,21 +188,21 @@ impl Held {
 #[derive(Drop)]
 pub struct Mailbox {
     held: Mutex<Held>,
-    /// Wakes the thread that enters.
+    /// Wakes the writer thread.
     came: Condvar,
-    /// Wakes those who call.
+    /// Wakes the caller threads.
     due: Condvar,
-    /// Wakes who waits for what was told to be taken, for the node to be counted, or for the
-    /// program's end.
+    /// Wakes threads that wait for a telling to be taken, for the node's facts to be counted, or
+    /// for the program's end.
     changed: Condvar,
-    /// Whether commands are entered since that was last asked, which they weren't before.
+    /// Whether commands have begun to be accepted since this was last asked.
     has_opened: AtomicBool,
 }
 
 impl Mailbox {
-    /// With nothing in it. Of the node's own front nothing is known yet. Where the others are in
-    /// processes of their own it is asked first, and then they are, before commands are entered: for
-    /// a second, or until it has heard them all.
+    /// Makes an empty mailbox. Nothing is known yet about the node's own front. If the others are
+    /// in processes of their own, the front is asked for first, and then the others are heard from
+    /// before commands are accepted: for a second, or until all were heard from.
     pub fn new(
         alloc: Global,
         me: NodeId,
@@ -228,12 +233,12 @@ impl Mailbox {
         }
     }
 
-    /// Notes that other participants may be to be called, after a completion or something else.
+    /// Records that other participants may be due, after a completion or something else.
     pub fn stir<R: Wait>(&self, rt: &R, is_completion: bool) {
         self.held.lock(rt).state.stir(is_completion);
     }
 
-    /// Wakes the thread that enters, if that was noted.
+    /// Wakes the writer thread, if that was recorded.
     pub(crate) fn pass_on<R: Wait>(&self, rt: &R) {
         let is_stirred = self.held.lock(rt).state.is_stirred();
         if is_stirred {
@@ -241,21 +246,20 @@ impl Mailbox {
         }
     }
 
-    /// Has nothing entered for so long: the journal failed, and questions are to be answered
+    /// Makes nothing be stored for this long: the journal failed, and questions are to be answered
     /// meanwhile.
     pub fn hold<R: Wait + Clock>(&self, rt: &R, time: Duration) {
         let until = now(rt).saturating_add(time);
         self.held.lock(rt).state.hold_until(until);
     }
 
-    /// Has the thread that enters look whether the run is over, also where it is only about to
-    /// wait.
+    /// Makes the writer thread check whether the run is over, even if it is only about to wait.
     pub fn wake<R: Wait>(&self, rt: &R) {
         self.held.lock(rt).state.hurry();
         self.came.notify_all();
     }
 
-    /// Ends the threads that call and pull.
+    /// Ends the caller and puller threads.
     pub fn end<R: Wait>(&self, rt: &R) {
         self.held.lock(rt).state.end();
         self.came.notify_all();
@@ -263,25 +267,25 @@ impl Mailbox {
         self.changed.notify_all();
     }
 
-    /// Tells how many facts of each node this one has at least.
+    /// Records that this node has at least these facts of each node.
     pub fn learn<R: Wait>(&self, rt: &R, front: &Front) {
         self.held.lock(rt).state.learn(front);
     }
 
-    /// Tells how many facts of each node this one has now.
+    /// Records how many facts of each node this one has now.
     pub fn count<R: Wait>(&self, rt: &R, front: &Front) {
         self.learn(rt, front);
         self.held.lock(rt).state.note_counted();
         self.changed.notify_all();
     }
 
-    /// Notes that it is to be asked how many facts the node has.
+    /// Records that the number of the node's facts is to be asked for.
     pub fn want_count<R: Wait>(&self, rt: &R) {
         self.held.lock(rt).state.want_count();
         self.came.notify_all();
     }
 
-    /// Waits until it is known how many facts the node has, or until the program is to end. It says
+    /// Waits until it is known how many facts the node has, or until the program is to end. Returns
     /// whether it is to end.
     pub(crate) fn wait_for_count<R: Wait>(&self, rt: &R) -> bool {
         let held = self.changed.wait_while(
@@ -292,33 +296,33 @@ impl Mailbox {
         held.state.has_ended()
     }
 
-    /// Whether the journal failed a moment ago, and is spared: nothing is to be stored.
+    /// Whether the journal failed a moment ago, so that nothing is to be stored.
     pub fn is_spared<R: Wait + Clock>(&self, rt: &R) -> bool {
         let moment = now(rt);
         self.held.lock(rt).state.is_spared(moment)
     }
 
-    /// Whether the other nodes aren't heard yet, so that nothing is to be entered.
+    /// Whether the other nodes weren't heard from yet, so that nothing is to be stored.
     pub fn is_behind<R: Wait>(&self, rt: &R) -> bool {
         !self.held.lock(rt).state.is_open()
     }
 
-    /// Has a start wait for all others, however long that takes.
+    /// Makes a start wait for all others, however long that takes.
     pub(crate) fn wait_for_all<R: Wait>(&self, rt: &R) {
         self.held.lock(rt).state.wait_for_all();
     }
 
-    /// How many wait for a call, are called, or pause before the next.
+    /// Returns how many participants wait for a call, are being called, or pause before the next.
     pub fn due<R: Wait>(&self, rt: &R) -> u64 {
         self.held.lock(rt).state.calls().len() as u64
     }
 
-    /// How many are called in vain, and how long the one that is so for longest.
+    /// Returns how many participants have failing calls, and for how long the worst of them has.
     pub fn in_vain<R: Wait>(&self, rt: &R, moment: Duration) -> (u64, Duration) {
         self.held.lock(rt).state.calls().in_vain(moment)
     }
 
-    /// Those who are called in vain, who is so for longest first.
+    /// Returns the participants whose calls fail, those that have failed for longest first.
     pub fn plaints<R: Wait>(
         &self,
         rt: &R,
@@ -328,18 +332,19 @@ impl Mailbox {
         self.held.lock(rt).plaints(alloc, moment)
     }
 
-    /// Tells that another node asks, which counts so many facts of its own.
+    /// Records that another node asks, which counts this many facts of its own.
     pub(crate) fn hear_asked<R: Wait>(&self, rt: &R, other: NodeId, own: u64) {
         self.held.lock(rt).asks.hear(other, own);
     }
 
-    /// How often another node began anew, as far as it asked since.
+    /// Returns how often another node began anew, as far as it has asked since.
     pub(crate) fn times_anew<R: Wait>(&self, rt: &R, other: NodeId) -> u64 {
         self.held.lock(rt).asks.times_anew(other)
     }
 
-    /// Tells that another node answered, and what it told; it had begun anew so often when it was asked
-    /// for that. It says whether that counts: what comes from before the node began anew doesn't.
+    /// Records that another node answered, and what it sent. `anew` is how often it had begun anew
+    /// when it was asked for that. Returns whether that counts: what is from before the node began
+    /// anew doesn't.
     pub(crate) fn note_heard<R: Wait>(
         &self,
         rt: &R,
@@ -357,12 +362,13 @@ impl Mailbox {
         true
     }
 
-    /// Tells that another node, which asks, claims to have so many facts of this one.
+    /// Records that another node, which asks, claims to have this many facts of this one.
     pub(crate) fn hear_claim<R: Wait>(&self, rt: &R, other: NodeId, count: u64) {
         self.held.lock(rt).state.hear_claim(other, count);
     }
 
-    /// How many facts of this node another claims to have, while a start waits for them; else none.
+    /// Returns how many facts of this node another claims to have, while a start waits for them,
+    /// and `None` otherwise.
     pub(crate) fn claim_of<R: Wait>(&self, rt: &R, other: NodeId) -> Option<u64> {
         let held = self.held.lock(rt);
         let claim = held.state.claim_of(other);
@@ -372,17 +378,18 @@ impl Mailbox {
         Some(claim)
     }
 
-    /// Has nothing entered before the node has so many facts of its own.
+    /// Makes the node store nothing before it has this many facts of its own.
     pub(crate) fn wait_for_own<R: Wait>(&self, rt: &R, count: u64) {
         self.held.lock(rt).state.wait_for_own(count);
     }
 
-    /// Tells that what another node told isn't handed over.
+    /// Records that a telling of another node isn't handed over.
     pub(crate) fn drop_telling<R: Wait>(&self, rt: &R, other: NodeId) {
         self.held.lock(rt).state.drop_telling(other);
     }
 
-    /// Tells the end of what another node told, which has this front: it was taken, or won't be.
+    /// Records the end of a telling of another node, which has this front: it was taken, or won't
+    /// be.
     pub fn end_telling<R: Wait>(&self, rt: &R, other: NodeId, front: &Front, is_taken: bool) {
         let mut held = self.held.lock(rt);
         held.end_telling(other, front, is_taken);
@@ -392,31 +399,32 @@ impl Mailbox {
         self.changed.notify_all();
     }
 
-    /// Keeps what another node told and couldn't be taken. It is tried again, where the journal failed
-    /// after a pause: the other may have lost it meanwhile, and is owed it (`is_owed`).
+    /// Keeps a telling of another node that couldn't be taken. It is tried again, after a pause if
+    /// the journal failed: the other node may have lost it meanwhile, and is owed it (`is_owed`).
     pub fn keep_telling<R: Wait + Clock>(&self, rt: &R, telling: Telling, has_failed: bool) {
         let moment = now(rt);
         if has_failed {
             self.held.lock(rt).pause_kept(moment);
         }
-        // (the other one, which may be long, is dropped once others may have the lock again)
+        // (The one that isn't kept may be long. It is dropped only after the lock is released.)
         let _other = self.held.lock(rt).keep(telling);
         self.changed.notify_all();
     }
 
-    /// Whether something that another node told is kept, since the journal couldn't take it.
+    /// Whether a telling of another node is kept because the journal couldn't take it.
     pub(crate) fn keeps<R: Wait>(&self, rt: &R, other: NodeId) -> bool {
         let place = usize::from(other.number().saturating_sub(1));
         self.held.lock(rt).is_kept(place)
     }
 
-    /// How many tellings of another node were taken, or weren't.
+    /// Returns how many tellings of another node were taken, or given up.
     pub(crate) fn ended<R: Wait>(&self, rt: &R, other: NodeId) -> u64 {
         self.held.lock(rt).ended(other)
     }
 
     /// Waits until this node has what a front counts, until one more telling of the other node is
-    /// taken or isn't, for so long at most, or until the program is to end. It says whether it has.
+    /// taken or given up, until this time is over, or until the program is to end. Returns whether
+    /// this node has what the front counts.
     pub(crate) fn wait_until_taken<R: Wait + Clock>(
         &self,
         rt: &R,
@@ -434,28 +442,30 @@ impl Mailbox {
         front.below(&held.state.front())
     }
 
-    /// Whether one that asks is owed facts of its own, which it told of and aren't stored here yet.
+    /// Whether a node that asks is owed facts of its own, which it sent and which aren't stored
+    /// here yet.
     pub fn is_owed<R: Wait>(&self, rt: &R, from: NodeId, asks: &Front) -> bool {
         self.held.lock(rt).state.is_owed(from, asks)
     }
 
-    /// Whether a command waits for the others to be heard: a start does, and hasn't for a second yet.
+    /// Whether a command waits for the others to be heard from: during a start it does, until a
+    /// second is over.
     pub fn is_opening<R: Wait>(&self, rt: &R) -> bool {
         let held = self.held.lock(rt);
         !held.state.is_open() && !held.state.is_late() && !held.state.has_ended()
     }
 
-    /// Whether commands are entered since this was last asked, which they weren't before.
+    /// Whether commands have begun to be accepted since this was last asked.
     pub fn take_opened(&self) -> bool {
         self.has_opened.swap(false, Ordering::SeqCst)
     }
 
-    /// How many facts of each node this one has at least.
+    /// Returns how many facts of each node this one has at least.
     pub fn front<R: Wait>(&self, rt: &R) -> Front {
         self.held.lock(rt).state.front()
     }
 
-    /// What the thread that enters does next. It waits for a quarter of a second at most.
+    /// Returns what the writer thread does next. It waits for at most a quarter of a second.
     pub fn next<R: Wait + Clock>(&self, rt: &R) -> Task {
         let moment = now(rt);
         let mut held = self.held.lock(rt);
@@ -479,59 +489,60 @@ impl Mailbox {
         task
     }
 
-    /// Notes what a call at the desk leaves to go on with.
+    /// Records the effects of a call at the desk.
     pub fn note<R: Wait + Clock>(&self, rt: &R, noted: &Noted) {
         let moment = now(rt);
         self.held.lock(rt).state.note(noted, moment);
     }
 
-    /// Wants a call made for operators: a question, or a command.
+    /// Asks for a call to be made for operators: a question, or a command.
     pub fn want<R: Wait>(&self, rt: &R, wanted: Wanted) {
         self.held.lock(rt).state.want(wanted);
         self.came.notify_all();
     }
 
-    /// Wants none made any more. It says whether it was wanted still: else it was made, or is being
+    /// Withdraws that call. Returns whether it was still wanted: otherwise it was made, or is being
     /// made.
     pub fn take_back<R: Wait>(&self, rt: &R) -> bool {
         self.held.lock(rt).state.take_back()
     }
 
-    /// Tells the sweep of an LRA on a page: what it shows, and what its tree shows.
+    /// Shows the sweep an LRA on a page: what it shows, and what its tree shows.
     pub fn see<R: Wait + Clock>(&self, rt: &R, id: LraId, shown: LraStatus, tree: LraStatus) {
         let moment = now(rt);
         self.held.lock(rt).state.see(moment, id, shown, tree);
     }
 
-    /// Tells it that the page is over, and whether more follow.
+    /// Tells the sweep that the page is over, and whether more pages follow.
     pub fn turn<R: Wait>(&self, rt: &R, more: bool) {
         self.held.lock(rt).state.turn(more);
     }
 
-    /// Tells it what came of a purge.
+    /// Tells the sweep the result of a purge.
     pub fn purged<R: Wait + Clock>(&self, rt: &R, id: LraId, purged: Purged) {
         let moment = now(rt);
         self.held.lock(rt).state.purged(moment, id, purged);
     }
 
-    /// How many LRAs of the home showed each status at the last look, in the order of their ranks.
+    /// Returns how many LRAs of the home showed each status at the last look, in the order of their
+    /// ranks.
     pub fn held<R: Wait>(&self, rt: &R) -> [u64; 7] {
         self.held.lock(rt).state.held()
     }
 
-    /// How full the home is.
+    /// Returns how full the home is.
     pub fn fill<R: Wait>(&self, rt: &R) -> Fill {
         self.held.lock(rt).state.fill()
     }
 
-    /// Tells that it is asked now who is to be called: who is heard from here on isn't called by the
-    /// list that comes of it.
+    /// Records that a list of duties is asked for now: participants that are heard from after this
+    /// aren't called by it.
     pub fn begin_list<R: Wait + Clock>(&self, rt: &R) {
         let moment = now(rt);
         self.held.lock(rt).state.begin_list(moment);
     }
 
-    /// Hands those who are to be called to the threads that call.
+    /// Hands a list of duties to the caller threads.
     pub fn put_duties<R: Wait + Clock>(&self, rt: &R, duties: Duties) {
         let moment = now(rt);
         let mut held = self.held.lock(rt);
@@ -541,8 +552,8 @@ impl Mailbox {
         }
     }
 
-    /// A participant that is to be called. It waits for one whose host may be called, and gives
-    /// none once the program is to end.
+    /// Returns a participant that is to be called. It waits for one whose host may be called, and
+    /// returns `None` once the program is to end.
     pub(crate) fn next_duty<R: Wait>(&self, rt: &R) -> Option<Due> {
         let mut held = self.due.wait_while(rt, self.held.lock(rt), |held| {
             !held.state.may_call() && !held.state.has_ended()
@@ -554,9 +565,9 @@ impl Mailbox {
         due
     }
 
-    /// Tells what came of a call that began at this moment: what was heard, or why the participant
-    /// is called again. Its host may be called once more then, by another thread too. It gives what
-    /// is to be told of calls in vain.
+    /// Records the result of a call that began at this moment: what was learned, or why the
+    /// participant is called again. From then on its host may be called once more, by another
+    /// thread too. Returns what is to be logged of failing calls.
     pub(crate) fn tell<R: Wait + Clock>(
         &self,
         rt: &R,
@@ -573,24 +584,23 @@ impl Mailbox {
         plight
     }
 
-    /// Has deadlines looked at once more at once.
+    /// Makes deadlines be checked once more at once.
     pub fn tick<R: Wait>(&self, rt: &R) {
         self.held.lock(rt).state.tick();
     }
 
-    /// Puts a letter back that couldn't be entered now.
+    /// Puts back a letter that couldn't be stored now.
     pub fn put_back<R: Wait>(&self, rt: &R, letter: Letter) {
         self.held.lock(rt).state.put_letter(letter);
     }
 
-    /// Tells that what was heard is entered. A participant that is busy is called again after a
-    /// pause.
+    /// Records that an answer is stored. A participant that is busy is called again after a pause.
     pub fn note_entered<R: Wait + Clock>(&self, rt: &R, letter: &Letter) {
         let moment = now(rt);
         self.held.lock(rt).state.note_entered(letter, moment);
     }
 
-    /// Hands over what another node told, unless something waits already. It says whether it did.
+    /// Hands over a telling of another node, unless one already waits. Returns whether it did.
     pub(crate) fn put_telling<R: Wait>(&self, rt: &R, telling: Telling) -> bool {
         let mut held = self.held.lock(rt);
         let is_put = held.state.put_telling(telling);
@@ -600,8 +610,8 @@ impl Mailbox {
         is_put
     }
 
-    /// Hands over what another node told, once nothing else waits. It says whether it did: not
-    /// where nothing of it is new by then, nor where the program is to end.
+    /// Hands over a telling of another node, once no other waits. Returns whether it did: not if
+    /// nothing in it is new by then, or if the program is to end.
     pub(crate) fn hand_over<R: Wait>(&self, rt: &R, telling: Telling) -> bool {
         let mut held = self.changed.wait_while(rt, self.held.lock(rt), |held| {
             held.state.has_telling() && !held.state.has_ended()
@@ -613,7 +623,7 @@ impl Mailbox {
         is_put
     }
 
-    /// Waits so long, or until the program is to end. It says whether it is to end.
+    /// Waits for this long, or until the program is to end. Returns whether it is to end.
     pub(crate) fn sleep<R: Wait + Clock>(&self, rt: &R, time: Duration) -> bool {
         let (held, _) = self.changed.wait_timeout_while(
             rt,

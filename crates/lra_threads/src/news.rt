@@ -1,21 +1,21 @@
-// What the nodes of a program tell one another: that one has something new.
+// How the nodes of a program announce to one another that one has something new.
 
 use std::sync::{Condvar, CondvarTimeouts, Mutex, Wait};
 use std::time::{Clock, Duration};
 
-/// How often each of eight nodes told that it has something new.
+/// How often each of eight nodes announced that it has something new.
 #[derive(Clone, Copy)]
 pub(crate) struct NewsCounts {
     each: [u64; 8],
 }
 
 impl NewsCounts {
-    /// Nobody told anything.
+    /// Makes the counts with no announcement.
     pub(crate) fn new() -> NewsCounts {
         NewsCounts { each: [0; 8] }
     }
 
-    /// How often a node told it.
+    /// Returns how often a node announced news.
     pub(crate) fn of(&self, number: u8) -> u64 {
         match self.each.get(usize::from(number.saturating_sub(1))) {
             Some(count) => *count,
@@ -23,14 +23,14 @@ impl NewsCounts {
         }
     }
 
-    /// Has a node have told it so often.
+    /// Sets how often a node announced news.
     pub(crate) fn set(&mut self, number: u8, count: u64) {
         if let Some(place) = self.each.get_mut(usize::from(number.saturating_sub(1))) {
             *place = count;
         }
     }
 
-    // Whether another node has told it more often than was seen.
+    // Whether another node has announced news more often than was seen.
     fn exceeds(&self, seen: &NewsCounts, me: u8) -> bool {
         for number in 1..=8u8 {
             if number != me && self.of(number) > seen.of(number) {
@@ -41,15 +41,15 @@ impl NewsCounts {
     }
 }
 
-// What lies under the lock.
+// What the lock guards.
 #[derive(Drop)]
 struct Board {
     counts: NewsCounts,
     ended: bool,
 }
 
-/// Where the nodes of a program tell one another that they have something new, so that the others
-/// pull it at once.
+/// Where the nodes of a program announce to one another that they have something new, so that the
+/// others pull it at once.
 #[derive(Drop)]
 pub struct News {
     told: Mutex<Board>,
@@ -67,7 +67,7 @@ impl News {
         }
     }
 
-    /// Tells that a node has something new.
+    /// Announces that a node has something new.
     pub(crate) fn tell<R: Wait>(&self, rt: &R, number: u8) {
         let mut told = self.told.lock(rt);
         let count = told.counts.of(number).saturating_add(1);
@@ -75,14 +75,14 @@ impl News {
         self.came.notify_all();
     }
 
-    /// Sends those home who wait: the program is to end.
+    /// Ends all waiting: the program is to end.
     pub fn end<R: Wait>(&self, rt: &R) {
         self.told.lock(rt).ended = true;
         self.came.notify_all();
     }
 
-    /// Waits so long until this node has told it more often than was seen. It gives how often it
-    /// did, or nothing once the program is to end.
+    /// Waits for at most this long until node `other` has announced news more often than was seen.
+    /// Returns how often it has, or `None` once the program is to end.
     pub(crate) fn wait_for<R: Wait + Clock>(
         &self,
         rt: &R,
@@ -101,8 +101,8 @@ impl News {
         Some(told.counts.of(other))
     }
 
-    /// Waits so long until another node has told more than was seen. It gives what all have told,
-    /// or nothing once the program is to end.
+    /// Waits for at most this long until another node has announced more than was seen. Returns
+    /// what all have announced, or `None` once the program is to end.
     pub(crate) fn wait<R: Wait + Clock>(
         &self,
         rt: &R,

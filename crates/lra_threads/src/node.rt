@@ -26,38 +26,39 @@ use std::time::{Clock, Duration};
 /// How long a node tries to reach its own port.
 const REACH_MS: u64 = 100;
 
-/// How long it waits before it tries again.
+/// How long it waits before the next try.
 const PAUSE_MS: u64 = 10;
 
-/// How often it tries that.
+/// How often it tries.
 const MAX_TURNS: u32 = 100;
 
-/// How often it looks at the end, as long apart, whether answers wait: for half a second.
+/// How often, at the end, it checks whether answers still wait, with that pause in between: for
+/// half a second.
 const LAST_TURNS: u32 = 50;
 
-/// How many looks in a row have to find none.
+/// How many checks in a row must find none.
 const QUIET_TURNS: u32 = 5;
 
 /// How a node deals with others, as its program was told.
 #[derive(Drop)]
 pub struct Manners {
-    /// Whether a start waits until all others were heard, without a bound.
+    /// Whether a start waits without limit until all others were heard from.
     pub waits_for_all: bool,
-    /// What a pull from each node says of who asks whom, in their order; nothing of one that isn't
-    /// here.
+    /// The query of a pull from each node, which says who asks whom, in the order of the nodes;
+    /// empty for a node that isn't there.
     pub queries: Vec<String>,
-    /// The same, of a pull that waits until there is something new.
+    /// The same for a pull that waits until there is something new.
     pub waiting: Vec<String>,
-    /// How many other nodes are to have a fact before who may have seen it goes on.
+    /// How many other nodes are to have a fact before answers that may show it are sent.
     pub wants: Wants,
     /// The names by which operators may ask it besides `localhost` and addresses.
     pub names: Vec<Bytes>,
-    /// Which build of the program runs it, where that says so.
+    /// Which build of the program runs it, if the program says so.
     pub build: Option<Build>,
 }
 
 impl Manners {
-    /// Those of a node of which nothing was told.
+    /// Makes the settings of a node about which nothing was said.
     pub fn of_nobody(alloc: Global) -> Manners {
         Manners {
             waits_for_all: false,
@@ -70,7 +71,7 @@ impl Manners {
     }
 }
 
-/// A number of each node, 0 at first.
+/// Makes a number for each node, 0 at first.
 fn no_numbers() -> [AtomicU64; MAX_NODES as usize] {
     [
         AtomicU64::new(0),
@@ -97,30 +98,33 @@ pub struct Node {
     pub tally: Tally,
     pub mailbox: Mailbox,
     pub counts: Counts,
-    /// How the nodes stand that pull from it.
+    /// The state of the nodes that pull from it.
     pub followers: Followers,
-    /// Since when calls wait at its desk.
+    /// Since when calls have waited at its desk.
     pub desk: DeskWatch,
-    /// Where it hears that others have something new.
+    /// Where it learns that others have something new.
     pub news: Arc<News>,
-    /// Where it tells that it has: where the nodes of its process hear it.
+    /// Where it announces that it has something new: where the nodes of its process learn it.
     told: Vec<Arc<News>>,
     has_news: AtomicBool,
     /// Whether a fact of its own was stored since the start.
     has_entered: AtomicBool,
     /// Whether its journal is closed, to be opened again.
     is_shut: AtomicBool,
-    /// Whether its journal is new where copies are wanted, and nobody said that the old one is lost.
+    /// Whether its journal is new although copies are wanted, and nobody said that the old one is
+    /// lost.
     is_new: AtomicBool,
     /// Whether the program is about to end.
     is_ending: AtomicBool,
-    /// How many calls of operators were made after they were answered that nobody knows (E18).
+    /// How many calls of operators were made after they had been answered that their outcome is
+    /// unknown (E18).
     late: AtomicU64,
-    /// Of each node the number of the refusal of what it told last, or 0.
+    /// For each node, the number of the refusal of what it sent last, or 0.
     refused: [AtomicU64; MAX_NODES as usize],
-    /// Of each node 1 where the last pull from it failed, else 0.
+    /// For each node, 1 if the last pull from it failed, otherwise 0.
     silent: [AtomicU64; MAX_NODES as usize],
-    /// Of each node 1 if it was heard to ask by pulls that wait, and no pull from it failed since; else 0.
+    /// For each node, 1 if it was seen to send pulls that wait, and no pull from it has failed
+    /// since; otherwise 0.
     waiting: [AtomicU64; MAX_NODES as usize],
     manners: Manners,
     /// When it started: milliseconds by the monotonic clock, and seconds since 1970.
@@ -129,9 +133,9 @@ pub struct Node {
 }
 
 impl Node {
-    /// One of so many nodes, at this site. It keeps roots that have ended so long. Its runs are as
-    /// long as the tally says. It hears news in one place, and tells it in those where the nodes of
-    /// its process do.
+    /// Makes a node in a group of `nodes` nodes, at this site. It keeps roots that have ended as
+    /// long as `keep` says. Its runs are as long as the tally says. It learns news in one place,
+    /// and announces it in those where the nodes of its process learn it.
     pub fn new(
         alloc: Global,
         me: NodeId,
@@ -181,18 +185,18 @@ impl Node {
         }
     }
 
-    /// The names by which operators may ask it besides `localhost` and addresses.
+    /// Returns the names by which operators may ask it besides `localhost` and addresses.
     pub fn names(&self) -> &[Bytes] {
         self.manners.names.as_slice()
     }
 
-    /// Which build of the program runs it, where that says so.
+    /// Returns which build of the program runs it, if the program says so.
     pub fn build(&self) -> Option<&Build> {
         self.manners.build.as_ref()
     }
 
-    /// What a pull from another node says of who asks whom, if anything, where it waits until there
-    /// is something new and where it doesn't.
+    /// Returns the query of a pull from another node, which says who asks whom, if anything: of a
+    /// pull that waits until there is something new, or of one that doesn't.
     pub(crate) fn query_of(&self, other: NodeId, waits: bool) -> &str {
         let place = usize::from(other.number().saturating_sub(1));
         let queries = if waits {
@@ -206,7 +210,7 @@ impl Node {
         }
     }
 
-    /// Notes by which refusal, by its number, what another node told was refused.
+    /// Records the number of the refusal by which what another node sent was refused.
     pub fn note_refused(&self, other: NodeId, number: u8) {
         let place = usize::from(other.number().saturating_sub(1));
         if let Some(refused) = self.refused.get(place) {
@@ -214,14 +218,14 @@ impl Node {
         }
     }
 
-    /// The number of that refusal, if there was one since this was last asked.
+    /// Takes the number of that refusal, if there was one since this was last asked.
     pub(crate) fn take_refused(&self, other: NodeId) -> Option<u64> {
         let place = usize::from(other.number().saturating_sub(1));
         let number = self.refused.get(place)?.swap(0, Ordering::SeqCst);
         if number == 0 { None } else { Some(number) }
     }
 
-    /// Notes whether the last pull from another node failed.
+    /// Records whether the last pull from another node failed.
     pub(crate) fn note_silent(&self, other: NodeId, is_silent: bool) {
         let place = usize::from(other.number().saturating_sub(1));
         if let Some(silent) = self.silent.get(place) {
@@ -234,7 +238,7 @@ impl Node {
         }
     }
 
-    /// Whether another node was heard to ask by pulls that wait: one that does holds pulls too.
+    /// Whether another node was seen to send pulls that wait: a node that does also holds pulls.
     pub(crate) fn asks_waiting(&self, other: NodeId) -> bool {
         let place = usize::from(other.number().saturating_sub(1));
         match self.waiting.get(place) {
@@ -243,8 +247,8 @@ impl Node {
         }
     }
 
-    /// Notes that another node asks, by a pull that waits or doesn't, and so lives: if the last pull
-    /// from it failed, it is asked again at once.
+    /// Records that another node asks, by a pull that waits or doesn't, and so is alive: if the
+    /// last pull from it failed, it is asked again at once.
     pub fn note_asked<R: Wait>(&self, rt: &R, other: NodeId, waits: bool) {
         let place = usize::from(other.number().saturating_sub(1));
         if let Some(waiting) = self.waiting.get(place) {
@@ -261,12 +265,12 @@ impl Node {
         }
     }
 
-    /// Its number, 1 to 8.
+    /// Returns its number, 1 to 8.
     pub fn number(&self) -> u8 {
         self.me.number()
     }
 
-    /// Notes that it starts now.
+    /// Records that it starts now.
     pub fn note_start<R: Clock>(&self, rt: &R) {
         let millis = u64::try_from(now(rt).as_millis()).unwrap_or(0);
         self.started_ms.store(millis, Ordering::SeqCst);
@@ -274,17 +278,17 @@ impl Node {
         self.start_seconds.store(since.as_secs(), Ordering::SeqCst);
     }
 
-    /// When it started, by the monotonic clock.
+    /// Returns when it started, by the monotonic clock.
     pub fn started(&self) -> Duration {
         Duration::from_millis(self.started_ms.load(Ordering::SeqCst))
     }
 
-    /// When it started, in seconds since 1970.
+    /// Returns when it started, in seconds since 1970.
     pub fn start_seconds(&self) -> u64 {
         self.start_seconds.load(Ordering::SeqCst)
     }
 
-    /// Notes whether its journal is closed, to be opened again.
+    /// Records whether its journal is closed, to be opened again.
     pub fn note_shut(&self, is_shut: bool) {
         self.is_shut.store(is_shut, Ordering::SeqCst);
     }
@@ -294,20 +298,22 @@ impl Node {
         self.is_shut.load(Ordering::SeqCst)
     }
 
-    /// Notes that a call of an operator was made after it was answered that nobody knows (E18).
+    /// Records that a call of an operator was made after it had been answered that its outcome is
+    /// unknown (E18).
     pub fn note_late(&self) {
         self.late.fetch_add(1, Ordering::SeqCst);
     }
 
-    /// How many were since this was last asked.
+    /// Returns how many were since this was last asked.
     pub(crate) fn take_late(&self) -> u64 {
         self.late.swap(0, Ordering::SeqCst)
     }
 
-    /// Why it enters no commands now, if it doesn't: `journal` from when the journal failed until a
-    /// fact was stored, `disk` where a call waits for seconds, `behind` where the other nodes aren't
-    /// heard yet or have more of its facts, `copies` where too few have what is stored and that is
-    /// strict, or there are two processes of its number, `ending` where the program is to end.
+    /// Returns why it accepts no commands now, if it doesn't: `journal` from when the journal
+    /// failed until a fact was stored; `disk` if a call has waited for seconds; `behind` if the
+    /// other nodes weren't heard from yet or have more of its facts; `copies` if too few nodes have
+    /// what is stored and copies are strict, or there are two processes with its number; `ending`
+    /// if the program is to end.
     pub fn unready<R: Wait + Clock>(&self, rt: &R) -> Option<&'static str> {
         if self.is_ending() || self.signal.has_ended(rt) {
             return Some("ending");
@@ -327,14 +333,14 @@ impl Node {
         None
     }
 
-    /// Notes that a fact of the node's own was stored.
+    /// Records that a fact of the node's own was stored.
     pub fn note_fact(&self) {
         self.has_entered.store(true, Ordering::SeqCst);
         self.has_news.store(true, Ordering::SeqCst);
     }
 
-    /// For which ticket an answer waits that may show what is stored now; 0 for none. The others are to
-    /// ask for it then (`pass_on`), though nothing more may be stored.
+    /// Returns the ticket for which an answer waits that may show what is stored now, or 0. If it
+    /// waits, the other nodes must ask for that (`pass_on`) even if nothing more is stored.
     pub fn target<R: Wait>(&self, rt: &R) -> u64 {
         let ticket = self.followers.target(rt);
         if ticket > 0 {
@@ -343,8 +349,8 @@ impl Node {
         ticket
     }
 
-    /// Wakes those who are to go on with what the calls so far came to: who enters, and the other
-    /// nodes. That is done after the answer, so that no client waits for it.
+    /// Wakes the threads and nodes that go on with the effects of the calls so far: the writer
+    /// thread, and the other nodes. This is done after the answer, so that no client waits for it.
     pub fn pass_on<R: Wait + Clock>(&self, rt: &R) {
         self.mailbox.pass_on(rt);
         if self.has_news.swap(false, Ordering::SeqCst) {
@@ -357,8 +363,9 @@ impl Node {
         }
     }
 
-    // Has other nodes hear that there is something new: those whose pulls are held get it. Where one
-    // has none, this one asks each, which so hears how many facts there are.
+    // Announces to other nodes that there is something new: those whose pulls are held get it. If
+    // one of them has no pull here, this node asks each of them, and they learn from that how many
+    // facts there are.
     fn tell_others<R: Wait + Clock>(&self, rt: &R) {
         self.queue.free(rt);
         if self.nodes == 1 || !self.followers.do_all_listen(rt) {
@@ -366,8 +373,9 @@ impl Node {
         }
     }
 
-    /// Notes which facts its journal has at the start. Where copies are wanted, and it has none of its
-    /// own, the disk may be lost: the start waits for all others. Else others may lack the last of them.
+    /// Records which facts its journal has at the start. If copies are wanted and the journal has
+    /// no fact of this node, the disk may be lost: the start waits for all others. If it has some,
+    /// the others may lack the last of them.
     pub fn note_journal<R: Wait>(&self, rt: &R, front: &Front) {
         self.followers.note_count(rt, front);
         if !self.followers.wants().any() {
@@ -383,15 +391,16 @@ impl Node {
         }
     }
 
-    /// Whether its journal is new where another knows facts of its own, and nobody said that the old
-    /// one is lost.
+    /// Whether its journal is new although another node knows facts of this one, and nobody said
+    /// that the old journal is lost.
     pub(crate) fn is_lost<R: Wait>(&self, rt: &R, told: &Front) -> bool {
         let is_said = self.manners.waits_for_all || !self.followers.wants().any();
         !is_said && told.count(self.me) > 0 && self.mailbox.front(rt).count(self.me) == 0
     }
 
-    /// Whether it answers nothing but pulls: its disk may be lost, and an LRA that it doesn't hold would
-    /// seem to be none. A group's first start ends that, once all others were heard.
+    /// Whether this node answers only pulls. Its disk may have been replaced, so a missing LRA
+    /// would wrongly look like an unknown one. At a group's first start this ends once all others
+    /// were heard from.
     pub fn answers_nothing<R: Wait>(&self, rt: &R) -> bool {
         if !self.is_new.load(Ordering::SeqCst) {
             return false;
@@ -401,13 +410,14 @@ impl Node {
         is_behind
     }
 
-    /// Whether the program is about to end: answers that wait are sent, and nothing is entered.
+    /// Whether the program is about to end: answers that wait are sent, and nothing is stored.
     pub fn is_ending(&self) -> bool {
         self.is_ending.load(Ordering::SeqCst)
     }
 
-    /// Hears how many facts of this node another has stored that asks, and has those go on who waited
-    /// for that. At a start what others have beyond this node's journal is taken back first.
+    /// Records how many of this node's facts the pulling node has stored, and releases the answers
+    /// that were waiting for that. At a start, what others have beyond this node's journal is taken
+    /// back first.
     pub fn hear_copies<R: Wait + Clock>(&self, rt: &R, other: NodeId, front: &Front) {
         let known = self.mailbox.front(rt);
         let (theirs, ours) = (front.count(self.me), known.count(self.me));
@@ -426,9 +436,9 @@ impl Node {
         }
     }
 
-    /// Has nothing entered from here on, where copies are wanted: another answered with facts of this node
-    /// that it never gave, so two processes may have its number. One that has entered nothing yet takes
-    /// them back: they were on their way when it ended.
+    /// If copies are wanted, makes the node store nothing from here on: another node answered with
+    /// facts of this node that it never gave, so two processes may have its number. A node that has
+    /// stored nothing yet takes them back instead: they were on their way when it ended.
     pub(crate) fn doubt<R: Wait>(&self, rt: &R) {
         if self.followers.wants().any() && self.has_entered.load(Ordering::SeqCst) {
             self.followers.doubt(rt);
@@ -436,8 +446,9 @@ impl Node {
         }
     }
 
-    /// Notes that a frame was taken which has facts of this node that its journal lacked. Others may lack
-    /// the last of them, so answers that show them wait as if they had been entered now.
+    /// Records that a frame was taken that has facts of this node which its journal lacked. Others
+    /// may lack the last of them, so answers that show them wait as if they had been stored just
+    /// now.
     pub fn note_taken_back<R: Wait>(&self, rt: &R, front: &Front) {
         self.followers.note_count(rt, front);
         if self.followers.wants().any() {
@@ -447,8 +458,7 @@ impl Node {
         }
     }
 
-    /// Hands those who are to be called to the threads that call, once other nodes have what was
-    /// seen.
+    /// Hands a list of duties to the caller threads, once other nodes have what was seen.
     pub fn put_duties<R: Wait + Clock>(&self, rt: &R, duties: Duties) {
         let ticket = self.target(rt);
         if ticket == 0 {
@@ -458,7 +468,7 @@ impl Node {
         }
     }
 
-    /// Hands over those who have waited for that.
+    /// Hands over the duties that have waited for that.
     pub fn put_held<R: Wait + Clock>(&self, rt: &R) {
         if !self.followers.wants().any() {
             return;
@@ -476,8 +486,8 @@ impl Node {
         }
     }
 
-    /// What becomes of a pull by another node that has so many facts of each, and has waited since a
-    /// moment, if it has.
+    /// Returns what happens to a pull by another node with this front, which has waited since a
+    /// moment if it has waited.
     pub fn judge<R: Wait + Clock>(
         &self,
         rt: &R,
@@ -489,8 +499,8 @@ impl Node {
         self.followers.judge(rt, other, front, &known, since)
     }
 
-    /// Hears how many facts of each node one has that asks this one. If it has more of another node's
-    /// than this one has, that node is asked: so who asks tells thereby that it has something new.
+    /// Looks at how many facts of each node the pulling node has. If it has more of a third node's
+    /// facts than this node has, that node is asked: so a pull also announces what its asker has.
     pub fn hear_front<R: Wait>(&self, rt: &R, front: &Front) {
         let known = self.mailbox.front(rt);
         let mut number = 0u8;
@@ -502,9 +512,9 @@ impl Node {
         }
     }
 
-    /// Hears how many facts of its own another node has, which asks this one, and how many of this node
-    /// it claims to have. If those are more than there are here, a start waits for them. One that asks
-    /// as if it had all that there can be claims nothing.
+    /// Records how many facts of its own the pulling node has, and how many of this node it claims
+    /// to have. If those are more than there are here, a start waits for them. A node that asks as
+    /// if it had everything that there can be claims nothing.
     pub fn hear_asker<R: Wait>(&self, rt: &R, other: NodeId, front: &Front) {
         self.mailbox.hear_asked(rt, other, front.count(other));
         let theirs = front.count(self.me);
@@ -513,7 +523,7 @@ impl Node {
         }
     }
 
-    /// Ends the run for this cause: sets the signal, and has the threads of the run look at it.
+    /// Ends the run for this reason: sets the signal, and makes the threads of the run look at it.
     pub fn end_run<R: Wait + Clock>(&self, rt: &R, why: StopReason) {
         if self.signal.end(rt, why) {
             self.followers.note_end(rt);
@@ -522,8 +532,9 @@ impl Node {
         }
     }
 
-    /// Ends all the node's threads, as the program is to end: the one place where that is told. It
-    /// sets the signal, and has those look at it who wait for a connection, a task, a duty, or news.
+    /// Ends all the node's threads, because the program is to end. This is the only place that does
+    /// so. It sets the signal, and wakes the threads that wait for a connection, a task, a duty, or
+    /// news, so that they look at it.
     pub fn end_program<R: Wait + Clock + Sockets>(&self, rt: &R) {
         self.wait_for_answers(rt);
         let _is_first = self.signal.end(rt, StopReason::Program);
@@ -537,8 +548,8 @@ impl Node {
         }
     }
 
-    // Waits a little until answers are sent that wait for other nodes, also of calls that are at the desk
-    // still. No command is entered meanwhile.
+    // Waits a little until answers are sent that wait for other nodes, including those of calls
+    // that are still at the desk. No command is stored meanwhile.
     fn wait_for_answers<R: Wait + Clock>(&self, rt: &R) {
         self.is_ending.store(true, Ordering::SeqCst);
         let mut quiet = 0u32;
@@ -563,10 +574,10 @@ impl Node {
         }
     }
 
-    // Connects once to a port of the node's own, so that the thread that accepts there looks at the
-    // signal. Where the port's queue is full the try ends with its time: that thread has others to
-    // take then, and looks after each. Where no socket can be had it tries again: that thread, too,
-    // gets none then, and looks each time.
+    // Connects once to one of the node's own ports, so that the thread that accepts there looks at
+    // the signal. If the port's queue is full, the attempt times out: then that thread has others
+    // to accept, and looks after each of them. If no socket is to be had, it tries again: then that
+    // thread gets none either, and looks each time.
     fn knock<R: Wait + Clock + Sockets>(&self, rt: &R, address: SocketAddr) {
         for _turn in 0..MAX_TURNS {
             match TcpStream::connect_timeout(rt, &address, Duration::from_millis(REACH_MS)) {

@@ -1,4 +1,4 @@
-// Those who are called in vain, as an operator is told of them.
+// The participants whose calls fail, as they are shown to an operator.
 
 use lra_callback::{Duty, Kind};
 use lra_id::LraId;
@@ -6,13 +6,13 @@ use lra_turns::{Called, Calls, Came};
 use std::alloc::{AllocError, Global};
 use std::time::Duration;
 
-/// How many are remembered at most: the first.
+/// The most that are remembered: the first ones.
 const MAX_SOUGHT: usize = 1_024;
 
-/// How many are told at most: those who are so for longest.
+/// The most that are shown: those that have failed for longest.
 const MAX_TOLD: usize = 256;
 
-/// One whose last call was in vain: who, for what, and where.
+/// A participant whose last call failed: who it is, what it was called for, and where.
 #[derive(Drop)]
 pub(crate) struct Sought {
     who: Called,
@@ -20,7 +20,7 @@ pub(crate) struct Sought {
     link: String,
 }
 
-/// One who is called in vain, as it is told.
+/// A participant whose calls fail, as it is shown.
 #[derive(Drop)]
 pub struct Plaint {
     pub id: LraId,
@@ -28,10 +28,10 @@ pub struct Plaint {
     pub kind: Kind,
     pub link: String,
     pub times: u32,
-    /// How long ago the first call in vain was over.
+    /// How long ago the first failed call was over.
     pub since: Duration,
     pub came: Came,
-    /// In what time it is called again; none while it waits for a thread or is called.
+    /// In how much time it is called again; `None` while it waits for a thread or is being called.
     pub next: Option<Duration>,
 }
 
@@ -39,8 +39,8 @@ fn is_same(a: &Called, b: &Called) -> bool {
     a.id == b.id && a.member == b.member && a.of_end == b.of_end
 }
 
-/// Remembers whom a call for a duty was made to in vain. One for which there is no room is not:
-/// those who are no longer called in vain make room.
+/// Remembers the participant of a duty whose call failed. If there is no room, participants whose
+/// calls no longer fail make room; if there is still none, it isn't remembered.
 pub(crate) fn note_sought(sought: &mut Vec<Sought>, calls: &Calls, alloc: Global, duty: &Duty) {
     let who = Called::of(duty);
     let Ok(link) = String::from_str(alloc, duty.link.as_str()) else {
@@ -62,17 +62,17 @@ pub(crate) fn note_sought(sought: &mut Vec<Sought>, calls: &Calls, alloc: Global
     }
 }
 
-/// Forgets one of whom something was heard.
+/// Forgets a participant whose answer counted.
 pub(crate) fn drop_sought(sought: &mut Vec<Sought>, who: &Called) {
     sought.retain(|one| !is_same(&one.who, who));
 }
 
-/// Forgets those who are no longer called in vain.
+/// Forgets the participants whose calls no longer fail.
 pub(crate) fn forget_found(sought: &mut Vec<Sought>, calls: &Calls) {
     sought.retain(|one| calls.vain_of(&one.who).is_some());
 }
 
-/// One as it is told at a moment, if it is still called in vain.
+/// Returns how a participant is shown at a moment, if its calls still fail.
 fn plaint_of(
     one: &Sought,
     calls: &Calls,
@@ -98,7 +98,8 @@ fn plaint_of(
     }))
 }
 
-/// Those who are told at a moment: who was first called in vain stands first.
+/// Returns the participants that are shown at a moment: the one whose calls failed first comes
+/// first.
 pub(crate) fn plaints_of(
     sought: &[Sought],
     calls: &Calls,

@@ -12,8 +12,8 @@ pub enum End {
     Failed,
 }
 
-/// Where the end of the program is told. The thread that reads the input shares it, and may outlive
-/// all others.
+/// Where the end of the program is announced. The thread that reads the input shares it, and may
+/// outlive all others.
 #[derive(Drop)]
 pub struct Shutdown {
     end: Mutex<Option<End>>,
@@ -28,7 +28,8 @@ impl Shutdown {
         }
     }
 
-    /// Tells an end. The first one stands, but a failure goes before the end of the input.
+    /// Announces an end. The first one stands, but a failure takes precedence over the end of the
+    /// input.
     pub fn tell<R: Wait>(&self, rt: &R, end: End) {
         let mut told = self.end.lock(rt);
         if told.is_none() || end == End::Failed {
@@ -37,7 +38,7 @@ impl Shutdown {
         self.told.notify_all();
     }
 
-    /// How the program came to its end.
+    /// Returns how the program came to its end.
     pub fn end<R: Wait>(&self, rt: &R) -> End {
         self.end.lock(rt).unwrap_or(End::Input)
     }
@@ -50,7 +51,7 @@ impl Shutdown {
     }
 }
 
-/// Reads an input to its end, and tells that.
+/// Reads an input to its end, and announces that.
 pub fn drain<R: Wait, I: Read + Drop>(rt: &R, mut input: I, shutdown: &Shutdown) {
     let mut bytes = [0u8; 512];
     for _turn in 0..u64::MAX {

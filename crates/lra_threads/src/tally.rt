@@ -15,7 +15,7 @@ pub struct Tally {
 }
 
 impl Tally {
-    /// Of runs that end early, at so many calls or so many moves of a frame.
+    /// Makes the tally of runs that end early, after this many calls or this many moves of a frame.
     pub fn new(max_calls: u64, max_moves: u64) -> Tally {
         Tally {
             max_calls,
@@ -34,7 +34,7 @@ impl Tally {
         self.stored.store(false, Ordering::SeqCst);
     }
 
-    /// Counts a call that was entered, as so many calls: by whether it moved a frame, and whether a
+    /// Counts a call that was recorded, as `calls` calls: whether it moved a frame, and whether a
     /// fact was stored.
     pub fn count(&self, calls: u64, is_move: bool, is_stored: bool) {
         self.calls.fetch_add(calls, Ordering::SeqCst);
@@ -45,7 +45,7 @@ impl Tally {
         }
     }
 
-    /// Notes that the journal failed.
+    /// Records that the journal failed.
     pub fn note_failure(&self) {
         self.failed.store(true, Ordering::SeqCst);
     }
@@ -55,7 +55,7 @@ impl Tally {
         self.failed.load(Ordering::SeqCst)
     }
 
-    /// Whether the run is to end now, so that no client meets its end.
+    /// Whether the run is to end now, so that no client runs into its end.
     pub fn is_spent(&self) -> bool {
         self.calls.load(Ordering::SeqCst) >= self.max_calls
             || self.moves.load(Ordering::SeqCst) >= self.max_moves

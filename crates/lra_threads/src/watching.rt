@@ -1,5 +1,6 @@
 // The thread that warns of a home that fills up, of LRAs that failed, of connections that were
-// closed, and of calls that were made after they were given up. It outlives the runs of its node.
+// closed, and of calls that were made after they had been given up. It outlives the runs of its
+// node.
 
 use crate::node::Node;
 use log::{Log, warn};
@@ -13,31 +14,32 @@ use std::time::{Clock, Duration};
 /// How often it looks.
 const LOOK_MS: u64 = 1_000;
 
-/// From how many places of a hundred on it warns.
+/// The percentage of taken places from which on it warns.
 const MANY: u64 = 75;
 
-/// From how many on it warns once more.
+/// The percentage from which on it warns once more.
 const MOST: u64 = 90;
 
-/// What stands for more than all.
+/// Stands for more than all places.
 const REFUSED: u64 = 101;
 
-/// How long a level isn't told again.
+/// How long a level isn't logged again.
 const QUIET_MS: u64 = 60_000;
 
-/// The ranks of the statuses by which an LRA failed to close, or to cancel.
+/// The ranks of the statuses of an LRA that failed to close, or to cancel.
 const FAILED_TO_CLOSE: usize = 3;
 
 const FAILED_TO_CANCEL: usize = 6;
 
-/// What was told of a home.
+/// What was logged of a home.
 #[derive(Drop)]
 struct Warned {
     level: u64,
     since: Duration,
 }
 
-/// What is to be told of a home, in places of a hundred: from which on it warns, or 0.
+/// Returns the level to be logged of a home, as a percentage of its places: the one from which on
+/// it warns, or 0.
 fn level_of(fill: &Fill) -> u64 {
     let hundred = fill.taken.saturating_mul(100);
     if fill.is_refused {
@@ -59,8 +61,8 @@ impl Warned {
         }
     }
 
-    /// Notes how full the home is. It says whether that is to be told now: a level is reached that
-    /// wasn't told since the home was well.
+    /// Records how full the home is. Returns whether that is to be logged now: a level is reached
+    /// that wasn't logged since the home was well.
     fn note_fill(&mut self, fill: &Fill, now: Duration) -> bool {
         let level = level_of(fill);
         if level == 0 && now.saturating_sub(self.since) >= Duration::from_millis(QUIET_MS) {
@@ -75,7 +77,7 @@ impl Warned {
     }
 }
 
-/// Warns of a home of which so many places are taken.
+/// Warns of a home of which this many places are taken.
 fn warn_of<L: Log>(log: &L, number: u8, fill: &Fill) {
     if fill.is_refused {
         warn!(log; "node {}: an LRA couldn't be begun (E13): its home holds {}", number, MAX_HELD);
@@ -84,7 +86,7 @@ fn warn_of<L: Log>(log: &L, number: u8, fill: &Fill) {
     }
 }
 
-/// Connections that were closed for want of files, and when that was last told.
+/// Connections that were closed for lack of files, and when that was last logged.
 #[derive(Drop)]
 struct Dropped {
     count: u64,
@@ -99,8 +101,8 @@ impl Dropped {
         }
     }
 
-    /// Adds so many. It gives how many are to be told now: those since the last time, once a minute
-    /// at most.
+    /// Adds to the count. Returns how many are to be logged now: those since the last time, at most
+    /// once a minute.
     fn add(&mut self, count: u64, now: Duration) -> Option<u64> {
         self.count = self.count.saturating_add(count);
         let is_quiet = match self.since {
@@ -117,14 +119,14 @@ impl Dropped {
     }
 }
 
-/// How many LRAs of a home failed, as was told, and when.
+/// How many failed LRAs of a home were logged, and when.
 #[derive(Drop)]
 struct Failures {
     told: u64,
     since: Option<Duration>,
 }
 
-/// How many of the LRAs that a home holds failed, of how many show each status by rank.
+/// Returns how many of the LRAs that a home holds failed, given how many show each status by rank.
 fn failed_of(held: &[u64; 7]) -> u64 {
     held[FAILED_TO_CLOSE].saturating_add(held[FAILED_TO_CANCEL])
 }
@@ -137,8 +139,8 @@ impl Failures {
         }
     }
 
-    /// Notes how many failed. It says whether that is to be told now: they are more than was told,
-    /// once a minute at most.
+    /// Records how many failed. Returns whether that is to be logged now: there are more than were
+    /// logged, at most once a minute.
     fn note(&mut self, count: u64, now: Duration) -> bool {
         self.told = self.told.min(count);
         let is_quiet = match self.since {
@@ -154,8 +156,8 @@ impl Failures {
     }
 }
 
-/// Warns of a disk that hangs, and tells once it answers again. It gives for how long it hangs, as
-/// that is remembered.
+/// Warns of a disk that hangs, and reports when it answers again. Returns for how long it has hung,
+/// to be remembered.
 fn warn_of_disk<L: Log>(
     log: &L,
     number: u8,
@@ -176,8 +178,8 @@ fn warn_of_disk<L: Log>(
     hangs
 }
 
-/// Whether others lagged, and whether it was told that this node's numbers seem to be given twice, or
-/// are, as is remembered.
+/// What is remembered of other nodes: whether they lagged, and whether it was logged that this
+/// node's numbers seem to be given twice, or really are.
 #[derive(Clone, Copy)]
 struct Lag {
     was_short: bool,
@@ -185,8 +187,8 @@ struct Lag {
     was_doubted: bool,
 }
 
-/// Warns of answers and calls that didn't wait for copies, and tells once that is over; and, once, that
-/// another process gives this node's numbers. It gives what is to be remembered.
+/// Warns of answers and calls that didn't wait for copies, and reports when that is over; and
+/// warns, once, that another process gives this node's numbers. Returns what is to be remembered.
 fn warn_of_copies<R: Wait, L: Log>(
     rt: &R,
     log: &L,
@@ -226,7 +228,8 @@ fn warn_of_copies<R: Wait, L: Log>(
 /// From how many seconds on it warns that a start waits for what another node claims.
 const CLAIM_LOOKS: u64 = 5;
 
-/// Who claims to have more facts of a node than it has, and how many, if a start waits for that.
+/// Returns which node claims to have more facts of this node than it has itself, and how many, if a
+/// start waits for that.
 fn claim_of<R: Wait>(rt: &R, node: &Node) -> Option<(u8, u64)> {
     let own = node.mailbox.front(rt).count(node.me);
     for number in 1..=node.nodes {
@@ -241,8 +244,8 @@ fn claim_of<R: Wait>(rt: &R, node: &Node) -> Option<(u8, u64)> {
     None
 }
 
-/// Warns, once, that a start has waited for seconds for what another node claims. It gives for how
-/// many looks it has.
+/// Warns, once, that a start has waited for seconds for what another node claims. Returns for how
+/// many checks it has.
 fn warn_of_claim<R: Wait, L: Log>(rt: &R, log: &L, node: &Node, looks: u64) -> u64 {
     let Some((other, claim)) = claim_of(rt, node) else {
         return 0;
@@ -254,12 +257,12 @@ fn warn_of_claim<R: Wait, L: Log>(rt: &R, log: &L, node: &Node, looks: u64) -> u
     looks.saturating_add(1)
 }
 
-/// Warns when three quarters and nine tenths of the home's places are taken, and when an LRA
-/// couldn't be begun, until the program is to end. It tells each once, and again once there was
-/// room and a minute is over. It warns of LRAs that failed, and of connections that were closed
-/// since no file was left, each once a minute at most, of calls of operators that were made after
-/// they were answered E18, of a disk that hangs, of answers that didn't wait for copies, and of a
-/// start that waits for what another node claims.
+/// Until the program is to end, warns when three quarters and nine tenths of the home's places are
+/// taken, and when an LRA couldn't be begun. It logs each once, and again once there was room and a
+/// minute has passed. It warns of LRAs that failed, and of connections that were closed because no
+/// file was left, each at most once a minute; of calls of operators that were made after they had
+/// been answered E18; of a disk that hangs; of answers that didn't wait for copies; and of a start
+/// that waits for what another node claims.
 pub fn watch<R: Wait + Clock, L: Log>(rt: &R, log: &L, node: &Node) {
     let (mut warned, mut closed) = (Warned::new(), Dropped::new());
     let (mut failures, mut hung) = (Failures::new(), None);
