@@ -1,4 +1,4 @@
-// Whom a node calls in vain, as JSON.
+// Writes the participants of a node whose calls fail, as JSON.
 
 use lra_sockets::now;
 use lra_threads::{Node, Plaint};
@@ -10,7 +10,7 @@ fn push(body: &mut Vec<u8>, text: &str) -> Result<(), AllocError> {
     body.extend_from_slice(text.as_bytes())
 }
 
-/// A text in quotes, of which each quote and backslash follows a backslash.
+/// Writes a text in quotes, in which each quote and backslash follows a backslash.
 fn push_quoted(body: &mut Vec<u8>, text: &str) -> Result<(), AllocError> {
     push(body, "\"")?;
     for byte in text.as_bytes() {
@@ -27,7 +27,7 @@ fn push_number(body: &mut Vec<u8>, alloc: Global, number: u64) -> Result<(), All
     push(body, digits.as_str())
 }
 
-/// Who it is, for what and where it is called.
+/// Writes who the participant is, what it is called for, and where.
 fn push_who(body: &mut Vec<u8>, alloc: Global, plaint: &Plaint) -> Result<(), AllocError> {
     push(body, "{\"lra\":\"")?;
     body.extend_from_slice(&plaint.id.to_text())?;
@@ -39,7 +39,8 @@ fn push_who(body: &mut Vec<u8>, alloc: Global, plaint: &Plaint) -> Result<(), Al
     push_quoted(body, plaint.link.as_str())
 }
 
-/// How often in vain, since when, what came of it, and when it is called again.
+/// Writes how often its calls failed, since when, the result of the last one, and when it is called
+/// again.
 fn push_how(body: &mut Vec<u8>, alloc: Global, plaint: &Plaint) -> Result<(), AllocError> {
     push(body, ",\"times\":")?;
     push_number(body, alloc, u64::from(plaint.times))?;
@@ -56,7 +57,7 @@ fn push_how(body: &mut Vec<u8>, alloc: Global, plaint: &Plaint) -> Result<(), Al
     push(body, "}")
 }
 
-/// They as JSON.
+/// Writes these participants as JSON.
 fn calls_text(alloc: Global, plaints: &[Plaint]) -> Result<Vec<u8>, AllocError> {
     let mut body = Vec::new(alloc);
     push(&mut body, "{\"calls\":[")?;
@@ -73,7 +74,8 @@ fn calls_text(alloc: Global, plaints: &[Plaint]) -> Result<Vec<u8>, AllocError> 
     Ok(body)
 }
 
-/// Whom a node calls in vain, as JSON: 256 at most, who is so for longest first.
+/// Returns the participants of a node whose calls fail, as JSON: at most 256, those that have
+/// failed for longest first.
 pub fn calls_of<R: Wait + Clock>(
     rt: &R,
     alloc: Global,

@@ -1,5 +1,5 @@
-//! What the threads of a node count and know, as text: its metrics in the format of Prometheus, and
-//! whom it calls in vain as JSON.
+//! Writes what the threads of a node count and know as text: its metrics in the format of
+//! Prometheus, and the participants whose calls fail as JSON.
 #![tactic(auto)]
 
 mod calls;

@@ -1,4 +1,4 @@
-// The counts of a node in the text format of Prometheus, version 0.0.4.
+// Writes the counts of a node in the text format of Prometheus, version 0.0.4.
 
 use lra_forest::MAX_HELD;
 use lra_id::{LraStatus, MAX_NODES, NodeId};
@@ -37,7 +37,7 @@ impl MetricsPage {
         self.push(digits.as_str())
     }
 
-    /// Begins a family: what it tells, and of which type it is.
+    /// Begins a family: what it counts, and its type.
     fn family(&mut self, name: &str, kind: &str, help: &str) -> Result<(), AllocError> {
         self.push("# HELP ")?;
         self.push(name)?;
@@ -50,7 +50,7 @@ impl MetricsPage {
         self.push("\n")
     }
 
-    /// A line's name, with the node's number.
+    /// Writes a line's name, with the node's number.
     fn open(&mut self, name: &str) -> Result<(), AllocError> {
         self.push(name)?;
         self.push("{node=\"")?;
@@ -58,7 +58,7 @@ impl MetricsPage {
         self.push("\"")
     }
 
-    /// One label more.
+    /// Writes one more label.
     fn label(&mut self, name: &str, value: &str) -> Result<(), AllocError> {
         self.push(",")?;
         self.push(name)?;
@@ -67,7 +67,7 @@ impl MetricsPage {
         self.push("\"")
     }
 
-    /// One label more, with a number.
+    /// Writes one more label, with a number.
     fn label_number(&mut self, name: &str, value: u64) -> Result<(), AllocError> {
         let digits = value.to_string(self.alloc)?;
         self.label(name, digits.as_str())
@@ -80,14 +80,14 @@ impl MetricsPage {
         self.push("\n")
     }
 
-    /// A family of one line.
+    /// Writes a family of one line.
     fn single(&mut self, name: &str, kind: &str, help: &str, value: u64) -> Result<(), AllocError> {
         self.family(name, kind, help)?;
         self.open(name)?;
         self.close(value)
     }
 
-    /// A line for each of some names.
+    /// Writes a line for each of some names.
     fn named(
         &mut self,
         name: &str,
@@ -208,7 +208,7 @@ fn push_held<R: Wait>(page: &mut MetricsPage, rt: &R, node: &Node) -> Result<(),
     )
 }
 
-/// Which build of the program runs, where that is known.
+/// Writes which build of the program runs, if that is known.
 fn push_build(page: &mut MetricsPage, build: Option<&Build>) -> Result<(), AllocError> {
     let Some(build) = build else {
         return Ok(());
@@ -222,7 +222,7 @@ fn push_build(page: &mut MetricsPage, build: Option<&Build>) -> Result<(), Alloc
     page.close(1)
 }
 
-/// The families of calls and runs.
+/// Writes the families of calls and runs.
 fn push_calls(page: &mut MetricsPage, numbers: &Numbers) -> Result<(), AllocError> {
     page.family(
         "lra_calls_total",
@@ -238,7 +238,7 @@ fn push_calls(page: &mut MetricsPage, numbers: &Numbers) -> Result<(), AllocErro
     page.single("lra_journal_failures_total", "counter", help, failures)
 }
 
-/// The families of participants.
+/// Writes the families of participants.
 fn push_participants<R: Wait>(
     page: &mut MetricsPage,
     rt: &R,
@@ -278,7 +278,7 @@ fn push_told<R: Wait>(page: &mut MetricsPage, rt: &R, node: &Node) -> Result<(),
     Ok(())
 }
 
-/// The families of those who wait until other nodes have what is stored here.
+/// Writes the families of requests and calls that wait until other nodes have what is stored here.
 fn push_waiting<R: Wait>(page: &mut MetricsPage, rt: &R, node: &Node) -> Result<(), AllocError> {
     let help = "Pulls of other nodes that wait until there is something new.";
     page.single("lra_pulls_held", "gauge", help, node.queue.holding())?;
@@ -302,7 +302,7 @@ fn push_waiting<R: Wait>(page: &mut MetricsPage, rt: &R, node: &Node) -> Result<
     page.single("lra_copies_short", "gauge", help, short)
 }
 
-/// The families of other nodes and connections.
+/// Writes the families of other nodes and connections.
 fn push_others<R: Wait>(
     page: &mut MetricsPage,
     rt: &R,
@@ -335,7 +335,7 @@ fn push_others<R: Wait>(
     page.named("lra_swept_total", "came", &SWEPT, &numbers.swept)
 }
 
-/// The counts of a node, in the text format of Prometheus.
+/// Returns the counts of a node, in the text format of Prometheus.
 pub fn metrics_of<R: Wait + Clock>(
     rt: &R,
     alloc: Global,
