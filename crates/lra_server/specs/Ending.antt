@@ -15,7 +15,7 @@ reason_of refusal.Stopped = Stopped
 reason_of (refusal.TrailLost number) = TrailLost number
 reason_of _ = RunFull
 
--- the refusal that a call met, where a run is over for one
+-- the refusal that a call met, if a run ended because of one
 abbrev pub met : StopReason → Option Refusal
 met JournalFailed = Some refusal.JournalFailed
 met Stopped = Some refusal.Stopped
@@ -25,7 +25,7 @@ met Program = None
 met Full = None
 met Starved = None
 
--- whether the next run is on the same book: nothing was wrong with it
+-- whether the next run uses the same book: nothing was wrong with it
 abbrev pub is_sound : StopReason → Bool
 is_sound Full = true
 is_sound RunFull = true
@@ -39,7 +39,7 @@ abbrev pub goes_on : Option StopReason → Bool
 goes_on None = true
 goes_on (Some reason) = is_sound reason
 
--- the exit status: 0 where the input ended, and 1 where a node couldn't begin or go on
+-- the exit status: 0 if the input ended, and 1 if a node couldn't begin or go on
 abbrev pub status_of : Result End Trouble → ℕ
 status_of (Ok Input) = 0
 status_of (Ok Failed) = 1

@@ -1,4 +1,4 @@
--- What the thread that enters asks of its clerk.
+-- What the writer thread asks of its clerk.
 use Rattle.std.specs.Prelude.{◌≡◌, ◌⊎◌, ◌∷◌, [], ⊤, ℕ, Bool, true, false, IfSome, List, Option, Some, None, Result, Ok, Err, not}
 use Rattle.lra_facts.specs.declared.refusal.Refusal.{Refusal}
 use Rattle.lra_facts.specs.declared.refusal.Refusal.TheVariants.{NoMemory}
@@ -20,38 +20,38 @@ use Rattle.lra_mailbox.specs.declared.task.Wanted.{Wanted}
 use Rattle.lra_mailbox.specs.declared.task.Wanted.TheVariants.{Command, Nothing, Question}
 use Rattle.lra_noting.specs.Noting.{enters}
 
--- what is told of a call: only why it was refused, if it was
+-- what is reported of a call: only why it was refused, if it was
 abbrev pub told : Result Reply Refusal → Result ⊤ Refusal
 told (Ok reply) = Ok tt
 told (Err refusal) = Err refusal
 
--- the call is made, once, at some moment, and that is told
+-- the call is made, once, at some moment, and that is reported
 abbrev pub IsMade : {C : Type 0} → OfClerk C → (old new : C) → Call → Result ⊤ Refusal → Type 0
 IsMade clerk old new asked result =
     (now : ℕ) × (outcome : Result Reply Refusal) × Makes clerk old new now asked outcome × (result ≡ told outcome)
 
--- the same; or the call is made, and then there is no memory for what it tells
+-- the same; or the call is made, and then there is no memory for its reply
 abbrev pub IsMadeInMemory : {C : Type 0} → OfClerk C → (old new : C) → Call → Result ⊤ Refusal → Type 0
 IsMadeInMemory clerk old new asked result =
     (now : ℕ) × (outcome : Result Reply Refusal) × Makes clerk old new now asked outcome
     × ((result ≡ told outcome) ⊎ (result ≡ Err NoMemory))
 
--- the call is made, once, and what came of it is handed on; or there is no memory for a copy
+-- the call is made, once, and its result is handed on; or there is no memory for a copy
 abbrev pub IsMadeAndCopied : {C : Type 0} → OfClerk C → (old new : C) → (now : ℕ) → Call → Result Reply Refusal → Type 0
 IsMadeAndCopied clerk old new now asked result =
     (outcome : Result Reply Refusal) × Makes clerk old new now asked outcome × ((result ≡ outcome) ⊎ (result ≡ Err NoMemory))
 
--- the command is entered, if there is one, and nothing else
+-- the command is recorded, if there is one, and nothing else
 abbrev pub EntersIf : {C : Type 0} → OfClerk C → (old new : C) → Option TheCommand → Result ⊤ Refusal → Type 0
 EntersIf clerk old new None result = (new ≡ old) × (result ≡ Ok tt)
 EntersIf clerk old new (Some command) result = IsMade clerk old new (call.Command command) result
 
--- of a letter, the command by what was heard in the call for its duty
+-- for a letter, the command by what was learned in the call for its duty
 abbrev pub EntersLetter : {C : Type 0} → OfClerk C → (old new : C) → Said → Result ⊤ Refusal → Type 0
 EntersLetter clerk old new letter result =
     EntersIf clerk old new (command_heard letter.duty.id letter.duty.member letter.duty.act letter.heard) result
 
--- a pull is made that tells only counts, or no memory is there for it
+-- a pull is made that returns only counts, or memory for it ran out
 abbrev pub Counts : {C : Type 0} → OfClerk C → (old new : C) → Result ⊤ Refusal → Type 0
 Counts clerk old new result =
     ((body : List ℕ) × IsMade clerk old new (call.Pull body) result) ⊎ ((new ≡ old) × (result ≡ Err NoMemory))
@@ -61,7 +61,8 @@ abbrev pub DoesChore : {C : Type 0} → OfClerk C → (old new : C) → Chore �
 DoesChore clerk old new (chore.List beyond) result = IsMade clerk old new (call.Survey beyond) result
 DoesChore clerk old new (chore.Purge kept) result = IsMade clerk old new (call.Sweep kept.root kept.seen) result
 
--- whether a call may be made for operators who want one of this kind: for a question none that enters something
+-- whether a call may be made for operators who want a call of this kind: if they want a question,
+-- none that may store something
 abbrev pub fits : Wanted → Call → Bool
 fits Nothing asked = false
 fits Question asked = not (enters asked)
@@ -72,7 +73,7 @@ abbrev pub MakesIf : {C : Type 0} → OfClerk C → (old new : C) → Option Cal
 MakesIf clerk old new None result = (new ≡ old) × (result ≡ Ok tt)
 MakesIf clerk old new (Some asked) result = IsMadeInMemory clerk old new asked result
 
--- One call at most for a task: what was heard is entered, what another node told is taken, and so on.
+-- At most one call for a task: an answer is recorded, what another node sent is taken, and so on.
 abbrev pub DoesTask : {C : Type 0} → OfClerk C → (old new : C) → Task → Result ⊤ Refusal → Type 0
 DoesTask clerk old new (task.Enter letter) result = EntersLetter clerk old new letter result
 DoesTask clerk old new (task.Take telling) result = IsMade clerk old new (call.Take telling.frame) result
@@ -88,7 +89,7 @@ abbrev pub DoesEach : {C : Type 0} → OfClerk C → (old : C) → List Task →
 DoesEach clerk old [] new = new ≡ old
 DoesEach clerk old (last ∷ before) new = (mid : _) × (result : Result ⊤ Refusal) × DoesEach clerk old before mid × DoesTask clerk mid new last result
 
--- the participants that are to be called, by a reply
+-- the participants that are to be called, given a reply
 abbrev pub duties_in : Reply → Option (List Duty)
 duties_in (Due duties) = Some duties
 duties_in _ = None

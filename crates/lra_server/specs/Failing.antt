@@ -1,4 +1,4 @@
--- How a node goes on after its journal failed, or no thread could be had.
+-- How a node goes on after its journal failed, or when no thread was to be had.
 use Rattle.std.specs.Prelude.{◌≡◌, ◌*◌, ◌-◌, ℕ, Bool, true, false, Option, None, Some, if◌then◌else◌, min, nat_lt}
 use Rattle.std.specs.Duration.{as_nanos}
 use Rattle.std.specs.declared.time.Duration.{Duration}
@@ -8,15 +8,16 @@ use Rattle.lra_server.specs.declared.node.backoff.Backoff.{Backoff}
 abbrev pub doubled : (longest time : ℕ) → ℕ
 doubled longest time = min (min (time * 2) 18_446_744_073_709_551_615) longest
 
--- after a pause in which nothing of the node's own is entered: the next is twice as long, up to 1.6 seconds
+-- after a pause in which nothing of the node's own is stored: the next is twice as long, up to 1.6
+-- seconds
 abbrev pub paused : Backoff → Backoff
 paused b = record { pause_ms = doubled 1_600 b.pause_ms; rest_ms = b.rest_ms; has_run = b.has_run; warned = b.warned }
 
--- after a rest before another try: the next is twice as long, up to a second
+-- after a rest before the next try: the next is twice as long, up to a second
 abbrev pub rested : Backoff → Backoff
 rested b = record { pause_ms = b.pause_ms; rest_ms = doubled 1_000 b.rest_ms; has_run = b.has_run; warned = b.warned }
 
--- what it tried came to something: the next rest is the first again
+-- a try succeeded: the next rest is the first again
 abbrev pub tried : Backoff → Backoff
 tried b = record { pause_ms = b.pause_ms; rest_ms = 100; has_run = b.has_run; warned = b.warned }
 

@@ -1,6 +1,6 @@
 //! The server: nodes that answer HTTP, call participants and pull from one another, each over its
-//! own journal. In folders by who owns what: `run` has one run of a node, `node` a node from its
-//! first run to its last, `operators` their port, and `program` all nodes of the process.
+//! own journal. The folders are by owner: `run` has one run of a node, `node` a node from its first
+//! run to its last, `operators` the operators' port, and `program` all nodes of the process.
 #![tactic(auto)]
 
 mod node;

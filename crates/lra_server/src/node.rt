@@ -34,7 +34,7 @@ use std::thread;
 use std::thread::{Scope, Threads};
 use std::time::{Clock, Duration};
 
-/// How long a node waits where no memory can be had for its table of paths.
+/// How long a node waits if there is no memory for its table of paths.
 const PAUSE_MS: u64 = 10;
 
 /// What a node couldn't do.
@@ -44,8 +44,8 @@ pub enum Failure {
     Run,
 }
 
-/// Whether the next run is on the same book, by why the last is over: it had no fault, or no thread
-/// or no memory could be had for it.
+/// Whether the next run uses the same book, given why the last run ended: nothing was wrong with
+/// the book, or no thread or no memory was to be had.
 fn goes_on(reason: Option<StopReason>) -> bool
     ensures { result ≡ goes_on reason }
 {
@@ -58,8 +58,8 @@ fn goes_on(reason: Option<StopReason>) -> bool
     }
 }
 
-/// Rests where a run had no threads, and else notes that it had them. It says whether the node can
-/// go on: at the start it can't without.
+/// Rests if a run had no threads; otherwise records that it had them. Returns whether the node can
+/// go on: at the start it can't without threads.
 fn rest_if_starved<R: Wait + Clock>(
     rt: &R,
     node: &Node,
@@ -77,9 +77,9 @@ fn rest_if_starved<R: Wait + Clock>(
     false
 }
 
-/// The book that the next run is on, by why the last is over: the same, or, where the journal
-/// failed or the desk was lost, one whose journal is opened again; none where the program is to
-/// end.
+/// Returns the book for the next run, given why the last run ended: the same book or, if the
+/// journal failed or the desk was lost, one whose journal is opened again; `None` if the program is
+/// to end.
 fn next_book<R, L: Log, S: Stores>(
     rt: &R,
     log: &L,
@@ -110,12 +110,12 @@ where
         return Ok(Some(book));
     }
     let had = book.front();
-    // (it holds the file's lock until it is dropped)
+    // (The connection holds the file's lock until it is dropped.)
     drop(book.close());
     reopened(rt, log, alloc, node, stores, shared, &had, backoff)
 }
 
-/// Counts a run that is over, and a failure of the journal, if one ended it.
+/// Counts a run that ended, and a failure of the journal, if one ended it.
 fn count_of<R: Wait>(rt: &R, node: &Node, reason: Option<StopReason>) {
     let Some(reason) = reason else {
         return;
@@ -126,7 +126,8 @@ fn count_of<R: Wait>(rt: &R, node: &Node, reason: Option<StopReason>) {
     }
 }
 
-/// Warns of what a run is over for, if a refusal or a want is, once a second at most.
+/// Warns of why a run ended, if it was a refusal or a lack of threads or memory, at most once a
+/// second.
 fn warn_of<R: Clock, L: Log>(
     rt: &R,
     log: &L,
@@ -147,7 +148,8 @@ fn warn_of<R: Clock, L: Log>(
     }
 }
 
-/// A book with a run begun, once there is memory for one; none where the program is to end before.
+/// Returns a book with a run begun, once there is memory for one; `None` if the program is to end
+/// before that.
 fn begun_in_time<R: Wait + Clock, S: Alter + Drop>(
     rt: &R,
     alloc: Global,
@@ -167,8 +169,8 @@ fn begun_in_time<R: Wait + Clock, S: Alter + Drop>(
     unreachable!()
 }
 
-/// The next run, begun, or none where the program is to end. The last run's book is none where
-/// there was no memory for a desk.
+/// Returns the next run, begun, or `None` if the program is to end. The last run's book is `None`
+/// if there was no memory for a desk.
 fn next_run<R, L: Log, S: Stores>(
     rt: &R,
     log: &L,
@@ -201,7 +203,8 @@ where
     Ok(begun_in_time(rt, alloc, node, Shut { book }))
 }
 
-/// A table of paths, once there is memory for it; none where the program is to end before.
+/// Makes a table of paths, once there is memory for it; returns `None` if the program is to end
+/// before that.
 fn paths_of<R: Wait + Clock>(rt: &R, alloc: Global, node: &Node) -> Option<Paths> {
     for _ in rt.forever() {
         if let Ok(paths) = Paths::new(alloc) {
@@ -215,7 +218,7 @@ fn paths_of<R: Wait + Clock>(rt: &R, alloc: Global, node: &Node) -> Option<Paths
     unreachable!()
 }
 
-/// The runs of a node, one after another, until the program is to end.
+/// Makes the runs of a node, one after another, until the program is to end.
 fn run_on<R, L, S: Stores>(
     rt: &R,
     log: &L,
@@ -241,7 +244,7 @@ where
     unreachable!()
 }
 
-/// Where a node's threads take connections.
+/// Where a node's threads accept connections.
 #[derive(Drop)]
 pub struct Listeners {
     listener: TcpListener,
@@ -249,7 +252,7 @@ pub struct Listeners {
     operators: Option<TcpListener>,
 }
 
-/// What a node begins with: its first run, its ports, and as whom it is asked.
+/// What a node begins with: its first run, its ports, and the name by which it is asked.
 #[derive(Drop)]
 pub struct NodeRuntime<S: Alter + Drop> {
     pub begun: Begun<S>,
@@ -257,7 +260,7 @@ pub struct NodeRuntime<S: Alter + Drop> {
     pub addressee: Addressee,
 }
 
-/// The port of an address, bound; or which can't be, and why.
+/// Binds the port of an address. Errors: the port that can't be bound, and why.
 fn bound<R: Sockets>(rt: &R, address: SocketAddr) -> Result<TcpListener, (u16, ErrorKind)> {
     match TcpListener::bind(rt, address) {
         Ok(listener) => Ok(listener),
@@ -265,8 +268,8 @@ fn bound<R: Sockets>(rt: &R, address: SocketAddr) -> Result<TcpListener, (u16, E
     }
 }
 
-/// What a node begins with that has this run and is asked so, at its ports; or which port can't be
-/// bound, and why.
+/// Makes what a node begins with, given its run and the name by which it is asked, at its ports.
+/// Errors: the port that can't be bound, and why.
 pub fn runtime_of<R: Sockets, S: Alter + Drop>(
     rt: &R,
     node: &Node,
@@ -289,7 +292,7 @@ pub fn runtime_of<R: Sockets, S: Alter + Drop>(
     })
 }
 
-/// Starts the thread that serves operators. It says whether one could be had.
+/// Starts the thread that serves operators. Returns whether a thread was to be had.
 fn start_operator<'s, E, R, L>(
     scope: &Scope<'s, E>,
     rt: &'s R,
@@ -308,7 +311,7 @@ where
         .is_ok()
 }
 
-/// Starts the thread that takes operators' connections. It says whether one could be had.
+/// Starts the thread that accepts operators' connections. Returns whether a thread was to be had.
 fn start_accepting<'s, E, R>(
     scope: &Scope<'s, E>,
     rt: &'s R,
@@ -323,7 +326,7 @@ where
         .is_ok()
 }
 
-/// Starts the threads that outlive the runs. It says whether all could be had.
+/// Starts the threads that outlive the runs. Returns whether all were to be had.
 fn start_helpers<'s, E, R, L>(
     scope: &Scope<'s, E>,
     rt: &'s R,
@@ -355,8 +358,8 @@ where
     }
 }
 
-/// The runs of a node beside the threads that outlive them. It is a function of its own, or the prover's
-/// search ends at a limit (docs/PROVING.md, "spawn-requires-send").
+/// Makes the runs of a node beside the threads that outlive them. It is a function of its own
+/// because otherwise the prover's search ends at a limit (docs/PROVING.md, "spawn-requires-send").
 fn run_beside<'s, E, R, L, S: Stores>(
     scope: &Scope<'s, E>,
     rt: &'s R,
@@ -381,8 +384,8 @@ where
     outcome
 }
 
-/// Runs a node: its runs, with the threads that accept, call and pull beside them, until the
-/// program is to end.
+/// Runs a node: its runs, and beside them the threads that accept, call and pull, until the program
+/// is to end.
 pub fn run_node<R, L, S: Stores + Sync>(
     rt: &R,
     log: &L,

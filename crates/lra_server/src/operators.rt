@@ -1,5 +1,5 @@
-// The thread that serves a node's operators. It outlives the runs of its node, and waits for no
-// desk.
+// The thread that serves a node's operators. It outlives the runs of its node, and never waits for
+// a desk.
 
 pub(crate) mod errands;
 pub(crate) mod known;
@@ -23,20 +23,20 @@ use std::rc::Rc;
 use std::sync::Wait;
 use std::time::{Clock, Duration};
 
-/// How long it may take to read a request of which all is there.
+/// How long it may take to read a request of which everything is there.
 const REQUEST_MS: u64 = 1_000;
 
-/// How long it may take to write its answer. What the operator doesn't take at once is sent on
-/// beside other requests.
+/// How long it may take to write its answer. What the operator doesn't accept at once is sent
+/// later, beside other requests.
 const ANSWER_MS: u64 = 5_000;
 
-/// How long it rests where nothing comes of all that wait.
+/// How long it rests if nothing comes from any connection that waits.
 const REST_MS: u64 = 2;
 
 /// A reader and a writer over an operator's connection, and the socket that they share.
 type Buffered<'a, R> = (SocketReader<'a, R>, SocketWriter<'a, R>, Rc<SharedSocket>);
 
-/// A reader and a writer over an operator's connection. A read waits for nothing.
+/// Makes a reader and a writer over an operator's connection. A read waits for nothing.
 fn buffered<'a, R: Wait + Clock>(
     rt: &'a R,
     alloc: Global,
@@ -56,8 +56,8 @@ fn buffered<'a, R: Wait + Clock>(
     Some((reader, writer, socket))
 }
 
-/// Refuses a long request, and reads nothing of it: one thread serves all operators, and no call of
-/// theirs is that long.
+/// Refuses a long request, and reads nothing of it: one thread serves all operators, and none of
+/// their calls is that long.
 fn refuse_long<'a, R: Wait + Clock>(
     rt: &'a R,
     alloc: Global,
@@ -105,8 +105,8 @@ fn serve_one<'a, R: Wait + Clock, L: Log>(
     Some(())
 }
 
-/// Serves operators, one after another, until the program is to end. Who says nothing, or takes
-/// nothing, waits beside the others.
+/// Serves operators, one after another, until the program is to end. An operator that sends
+/// nothing, or accepts nothing, waits beside the others.
 pub fn operate<R: Wait + Clock, L: Log>(
     rt: &R,
     log: &L,

@@ -26,10 +26,10 @@ use std::thread;
 use std::thread::{Scope, Threads};
 use std::time::Clock;
 
-/// How many entries are left for those who are in the midst of a call when a run is ended early.
+/// How many entries are left for calls that are under way when a run is ended early.
 const ENTRIES_LEFT: u64 = 64;
 
-/// How many frames are left, likewise: four workers, and the thread that enters.
+/// How many frames are left for them: for four workers and the writer thread.
 const MOVES_LEFT: u64 = 5;
 
 /// Why the program can't go on.
@@ -53,7 +53,7 @@ fn cause_of(kind: ErrorKind) -> &'static str {
     }
 }
 
-/// Tells what can't be had, and why, a line each.
+/// Prints what is not to be had, and why, a line each.
 fn tell<R: Eprint>(rt: &R, trouble: Trouble) {
     let _ = match trouble {
         Trouble::Journal(number, why) => eprintln!(rt;
@@ -69,13 +69,13 @@ fn tell<R: Eprint>(rt: &R, trouble: Trouble) {
     };
 }
 
-/// Whether other machines may reach the port of a node that has nodes elsewhere, and so another group's
-/// nodes may.
+/// Whether other machines, and so nodes of another group, may reach the port of a node that has
+/// nodes elsewhere.
 fn is_in_reach(node: &Node) -> bool {
     node.nodes > 1 && node.site.is_apart() && !node.site.listen.ip().is_loopback()
 }
 
-/// Tells where each node listens, and warns if nodes of another group may be taken for its own.
+/// Logs where each node listens, and warns if nodes of another group may be taken for its own.
 fn tell_of_all<L: Log>(log: &L, nodes: &[Node], group: Option<&GroupName>) {
     for node in nodes {
         info!(log; "node {}: listens on {}", node.number(), node.site.listen);
@@ -88,7 +88,7 @@ fn tell_of_all<L: Log>(log: &L, nodes: &[Node], group: Option<&GroupName>) {
     }
 }
 
-/// The books of all nodes, or the first node whose journal can't be opened.
+/// Opens the books of all nodes. Errors: the first node whose journal can't be opened.
 fn books_of<S: Stores>(
     alloc: Global,
     nodes: &[Node],
@@ -107,7 +107,7 @@ fn books_of<S: Stores>(
     Ok(books)
 }
 
-/// All books with a run on, or the first node whose run can't be started.
+/// Begins a run in each book. Errors: the first node whose run can't be started.
 fn begun_of<S: Alter + Drop>(
     alloc: Global,
     nodes: &[Node],
@@ -125,7 +125,8 @@ fn begun_of<S: Alter + Drop>(
     Ok(begun)
 }
 
-/// As whom a node is asked: where the others are in other processes, by its number and group.
+/// Returns the name by which a node is asked: its number and group, if the others are in other
+/// processes.
 fn addressee_of(
     alloc: Global,
     node: &Node,
@@ -141,7 +142,7 @@ fn addressee_of(
     Ok(Addressee::of(node.me, GroupName::new(name)))
 }
 
-/// What all nodes begin with, or the first port that can't be bound.
+/// Makes what all nodes begin with. Errors: the first port that can't be bound.
 fn runtimes_of<R: Sockets, S: Alter + Drop>(
     rt: &R,
     alloc: Global,
@@ -165,7 +166,7 @@ fn runtimes_of<R: Sockets, S: Alter + Drop>(
     Ok(runtimes)
 }
 
-/// A tally by which a run ends before it is full.
+/// Makes a tally by which a run ends before it is full.
 fn tally() -> Tally {
     Tally::new(
         (MAX_ENTRIES as u64).saturating_sub(ENTRIES_LEFT),
@@ -173,7 +174,7 @@ fn tally() -> Tally {
     )
 }
 
-/// The same places of news once more.
+/// Returns the same places of news once more.
 fn same_news(alloc: Global, all: &[Arc<News>]) -> Result<Vec<Arc<News>>, AllocError> {
     let mut same = Vec::new(alloc);
     for news in all {
@@ -182,7 +183,7 @@ fn same_news(alloc: Global, all: &[Arc<News>]) -> Result<Vec<Arc<News>>, AllocEr
     Ok(same)
 }
 
-/// What the nodes share with their threads.
+/// Makes what the nodes share with their threads.
 fn nodes_of(alloc: Global, nodes: u8, port: u16) -> Result<Vec<Node>, AllocError>
     requires { (1 ≤ nodes) × (nodes ≤ MAX_NODES) }
 {
@@ -214,29 +215,30 @@ pub struct Members {
     pub last: u8,
     /// Where all nodes of the group are reached, in order.
     pub peers: Vec<Peer>,
-    /// Where each listens, if that is said; else on the loopback interface, at the port where it is
-    /// reached.
+    /// Where each listens, if that is given; otherwise on the loopback interface, at the port where
+    /// it is reached.
     pub listen: Option<SocketAddr>,
-    /// Where the first of them listens for operators, if that is said; each other at the next port.
+    /// Where the first of them listens for operators, if that is given; each other one listens at
+    /// the next port.
     pub operate: Option<SocketAddr>,
-    /// The names by which operators may ask them, besides `localhost` and addresses: parted by
+    /// The names by which operators may ask them, besides `localhost` and addresses, separated by
     /// commas.
     pub names: String,
     /// How long each keeps roots that have ended.
     pub keep: Keep,
-    /// The name of their group, if it has one. A pull of another group's node is refused, and so is
-    /// what one of another group answers.
+    /// The name of their group, if it has one. A pull by a node of another group is refused, and so
+    /// is an answer of a node of another group.
     pub group: Option<GroupName>,
-    /// How many other nodes are to have a fact before who may have seen it goes on.
+    /// How many other nodes are to have a fact before answers that may show it are sent.
     pub wants: Wants,
-    /// Whether each waits at its start until it has heard all others, without a bound: its journal
-    /// is lost, or not the newest.
+    /// Whether each waits at its start, without limit, until it has heard from all others: its
+    /// journal is lost, or not the newest.
     pub anew: bool,
     /// Which build of the program runs them.
     pub build: Build,
 }
 
-/// What a pull by a node from each of so many says of who asks whom.
+/// Makes the queries of a node's pulls from each of `nodes` nodes, which say who asks whom.
 fn queries_of(
     alloc: Global,
     me: NodeId,
@@ -254,7 +256,7 @@ fn queries_of(
     Ok(queries)
 }
 
-/// The names in a text, which are parted by commas.
+/// Returns the names in a text, which are separated by commas.
 fn names_in(alloc: Global, text: &str) -> Result<Vec<Bytes>, AllocError> {
     let mut names = Vec::new(alloc);
     for name in text.split(',') {
@@ -263,7 +265,7 @@ fn names_in(alloc: Global, text: &str) -> Result<Vec<Bytes>, AllocError> {
     Ok(names)
 }
 
-/// How a member of so many deals with others.
+/// Makes the settings by which a member of a group of `nodes` nodes deals with others.
 fn manners_of(
     alloc: Global,
     me: NodeId,
@@ -284,14 +286,14 @@ fn manners_of(
     })
 }
 
-/// An address at the port so many after one.
+/// Returns an address at the port `count` above its own.
 fn port_after(address: Option<SocketAddr>, count: u8) -> Option<SocketAddr> {
     let address = address?;
     let port = address.port().saturating_add(u16::from(count));
     Some(SocketAddr::new(address.ip(), port))
 }
 
-/// What members of a group share with their threads.
+/// Makes what members of a group share with their threads.
 fn nodes_of_members(
     alloc: Global,
     members: Members,
@@ -343,7 +345,7 @@ fn nodes_of_members(
     Ok((all, group))
 }
 
-/// Runs a node, and tells a failure.
+/// Runs a node, and reports a failure.
 fn run_and_tell<R, L, S: Stores + Sync>(
     rt: &R,
     log: &L,
@@ -366,7 +368,7 @@ where
     }
 }
 
-/// Starts the thread of a node. Where none can be had it tells the end.
+/// Starts the thread of a node. If no thread is to be had, it announces the end.
 fn start<'s, E, R, L, S: Stores + Sync + 's>(
     scope: &Scope<'s, E>,
     rt: &'s R,
@@ -410,7 +412,7 @@ where
     }
 }
 
-/// The nodes' threads, until the input ends or a node fails.
+/// Runs the nodes' threads, until the input ends or a node fails.
 fn run_all<R, L, S: Stores + Sync>(
     rt: &R,
     log: &L,
@@ -446,8 +448,8 @@ fn begin<R: Sockets, S: Stores>(
     runtimes_of(rt, alloc, nodes, begun, group)
 }
 
-/// Has a thread read the input, which tells its end. Where that can't be had, the run of this node
-/// can't be started.
+/// Makes a thread read the input, which announces its end. If no thread is to be had, the run of
+/// node `first` can't be started.
 fn watch<R: Threads, H: Wait + Send + Drop + 'static, I: Read + Send + Drop + 'static>(
     rt: &R,
     alloc: Global,
@@ -467,7 +469,7 @@ fn watch<R: Threads, H: Wait + Send + Drop + 'static, I: Read + Send + Drop + 's
     Ok(shutdown)
 }
 
-/// Runs these nodes, of which the first has this number, until the input ends or a node fails.
+/// Runs these nodes, the first of which has this number, until the input ends or a node fails.
 fn serve_these<R, L, H, S, I>(
     rt: &R,
     log: &L,
@@ -493,7 +495,7 @@ where
     Ok(shutdown.end(rt))
 }
 
-/// The exit status of a program that ended so.
+/// Returns the exit status of a program that ended in this way.
 fn status_of(ended: Result<End, Trouble>) -> u8
     ensures { result ≡ status_of ended }
 {
@@ -503,7 +505,7 @@ fn status_of(ended: Result<End, Trouble>) -> u8
     }
 }
 
-/// Tells why the program can't begin, if it can't, and gives the exit status.
+/// Prints why the program can't begin, if it can't, and returns the exit status.
 fn close<R: Eprint>(rt: &R, ended: Result<End, Trouble>) -> u8
     ensures { result ≡ status_of ended }
 {
@@ -513,9 +515,9 @@ fn close<R: Eprint>(rt: &R, ended: Result<End, Trouble>) -> u8
     status_of(ended)
 }
 
-/// Runs so many nodes, 1 to 8, whose journals lie in these stores; node I listens at the port + I -
+/// Runs `nodes` nodes, 1 to 8, whose journals lie in these stores; node I listens at the port + I -
 /// 1 of the loopback interface. It ends with 0 when the input ends, and with 1 at the first journal
-/// that can't be opened, run that can't be started, or port that can't be bound, which it tells on
+/// that can't be opened, run that can't be started, or port that can't be bound, which it prints on
 /// standard error.
 pub fn serve<R, L, H, S, I>(
     rt: &R,

@@ -33,10 +33,10 @@ use std::thread;
 use std::thread::{JoinHandle, Scope, Threads};
 use std::time::Clock;
 
-/// The threads that have a pass: four workers, and the one that enters.
+/// The number of threads that have a pass: four workers, and the writer thread.
 const PASSES: usize = 5;
 
-/// Serves what waits, until the run is over.
+/// Serves the connections that wait, until the run is over.
 fn run_worker<R: Wait + Clock + Sockets, J: Run, S: Alter + Drop>(
     rt: &R,
     alloc: Global,
@@ -55,7 +55,7 @@ fn run_worker<R: Wait + Clock + Sockets, J: Run, S: Alter + Drop>(
         let (back, ending) = work(rt, alloc, paths, &mut connections, clerk, &Open, addressee);
         connections.close_served();
         clerk = back;
-        // A call that was refused ends no run.
+        // A call that was held back doesn't end the run.
         if clerk.take_held() {
             continue;
         }
@@ -67,7 +67,7 @@ fn run_worker<R: Wait + Clock + Sockets, J: Run, S: Alter + Drop>(
     unreachable!()
 }
 
-/// Enters what other threads hear, until the run is over.
+/// Runs the writer thread, until the run is over.
 fn run_apply_loop<R: Wait + Clock + Sockets, J: Run, S: Alter + Drop>(
     rt: &R,
     alloc: Global,
@@ -81,8 +81,9 @@ fn run_apply_loop<R: Wait + Clock + Sockets, J: Run, S: Alter + Drop>(
     clerk.into_clerk().into_pass()
 }
 
-/// Starts the thread that enters, or ends the run and gives the pass back. Each start is a function
-/// of its own, or the prover's search ends at a limit (docs/PROVING.md, "spawn-requires-send").
+/// Starts the writer thread, or ends the run and returns the pass. Each start is a function of its
+/// own because otherwise the prover's search ends at a limit (docs/PROVING.md,
+/// "spawn-requires-send").
 fn start_apply_loop<'s, E, J: Run + Send + Sync + 's, S: Alter + Send + Drop + 's, R>(
     scope: &Scope<'s, E>,
     rt: &'s R,
@@ -98,14 +99,14 @@ where
     match scope.spawn(move || run_apply_loop(rt, alloc, node, errands, desk, pass)) {
         Ok(thread) => Ok(thread),
         Err(refused) => {
-            // The run is over, so this comes back at once.
+            // The run is over, so this returns at once.
             node.end_run(rt, StopReason::Starved);
             Err((refused.value)())
         }
     }
 }
 
-/// Starts a worker, or ends the run and gives the pass back.
+/// Starts a worker, or ends the run and returns the pass.
 fn start_worker<'s, E, J: Run + Send + Sync + 's, S: Alter + Send + Drop + 's, R>(
     scope: &Scope<'s, E>,
     rt: &'s R,
@@ -123,14 +124,15 @@ where
     match scope.spawn(move || run_worker(rt, alloc, node, paths, addressee, desk, pass, place)) {
         Ok(thread) => Ok(thread),
         Err(refused) => {
-            // The run is over, so this comes back at once.
+            // The run is over, so this returns at once.
             node.end_run(rt, StopReason::Starved);
             Err((refused.value)())
         }
     }
 }
 
-/// Starts the thread with the pass at a place: the first enters, and the others are workers.
+/// Starts the thread with the pass at a place: the first is the writer thread, and the others are
+/// workers.
 fn start<'s, E, J: Run + Send + Sync + 's, S: Alter + Send + Drop + 's, R>(
     scope: &Scope<'s, E>,
     rt: &'s R,
@@ -152,7 +154,7 @@ where
     }
 }
 
-/// Starts a thread for each pass. What can't be started gives its pass back at once.
+/// Starts a thread for each pass. If one can't be started, its pass comes back at once.
 fn start_all<'s, E, J: Run + Send + Sync + 's, S: Alter + Send + Drop + 's, R>(
     scope: &Scope<'s, E>,
     rt: &'s R,
@@ -179,7 +181,7 @@ where
     }
 }
 
-/// Room for the threads of a run and for their passes.
+/// Makes room for the threads of a run and for their passes.
 fn room_for<T: Drop, P: Drop>(alloc: Global) -> Option<(Vec<T>, Vec<P>)> {
     let mut threads = Vec::new(alloc);
     let mut back = Vec::new(alloc);
@@ -189,8 +191,8 @@ fn room_for<T: Drop, P: Drop>(alloc: Global) -> Option<(Vec<T>, Vec<P>)> {
     Some((threads, back))
 }
 
-/// The threads of one run: they begin, serve until the run is over, and are joined. It gives all
-/// passes back.
+/// Runs the threads of one run: they begin, serve until the run is over, and are joined. Returns
+/// all passes.
 fn run_threads<J: Run + Send + Sync, S: Alter + Send + Drop, R>(
     rt: &R,
     alloc: Global,
@@ -219,7 +221,7 @@ where
             &mut back,
         );
         if node.signal.stop_reason(rt).is_some() {
-            // (the program's end may have come before the queue began)
+            // (The program's end may have come before the queue began.)
             node.queue.end(rt);
         }
         for thread in threads {
@@ -229,8 +231,7 @@ where
     })
 }
 
-/// One run of a book. It gives the book back, or nothing where the desk couldn't be opened or
-/// closed.
+/// Makes one run of a book. Returns the book, or `None` if the desk couldn't be opened or closed.
 fn run<J: Run + Send + Sync, S: Alter + Send + Drop, R, L>(
     rt: &R,
     log: &L,
@@ -266,7 +267,7 @@ where
     Some(book)
 }
 
-/// One run of a book, under a name of its own: the ledger is the blank's, and the opening the
+/// Makes one run of a book, under a name of its own: the ledger is the blank's, and the opening the
 /// book's.
 pub fn named_run<S: Alter + Send + Drop, R, L>(
     rt: &R,

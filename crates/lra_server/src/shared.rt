@@ -1,11 +1,11 @@
-// What the threads of a node share beside its desk and its `Node`.
+// What the threads of a node share besides its desk and its `Node`.
 
 use crate::operators::errands::Errands;
 use lra_api::Paths;
 use lra_work::Addressee;
 
-/// What the threads of a node share, from run to run: the table of paths, who is asked here, and
-/// where operators ask for calls.
+/// What the threads of a node share, from run to run: the table of paths, the name by which the
+/// node is asked, and the place where operators ask for calls.
 #[derive(Drop)]
 pub struct Shared {
     pub paths: Paths,

@@ -1,25 +1,25 @@
-// How a node goes on after its journal failed, or no thread could be had.
+// How a node goes on after its journal failed, or when no thread was to be had.
 ghost use Rattle.std.specs.Prelude.{◌≡◌, ◌*◌, None, false, not};
 ghost use Rattle.std.specs.Duration.{as_nanos};
 ghost use Rattle.lra_server.specs.Failing.{is_quiet, paused, ran, rested, stored, tried, warned_at};
 
 use std::time::Duration;
 
-/// How long nothing of the node's own is entered after a failure of its journal. It doubles each
+/// How long nothing of the node's own is stored after a failure of its journal. It doubles each
 /// time.
 const FIRST_PAUSE_MS: u64 = 100;
 
-/// How long at most.
+/// The longest such time.
 const LAST_PAUSE_MS: u64 = 1_600;
 
-/// How long it waits before it opens its journal again, or begins a run for which no thread could
-/// be had. It doubles with each try that fails.
+/// How long it waits before it opens its journal again, or begins a run for which no thread was to
+/// be had. It doubles with each failed try.
 const FIRST_REST_MS: u64 = 100;
 
-/// How long at most.
+/// The longest such wait.
 const LAST_REST_MS: u64 = 1_000;
 
-/// The time between two warnings at least, in nanoseconds.
+/// The least time between two warnings, in nanoseconds.
 const QUIET_NANOS: u128 = 1_000_000_000;
 
 /// What a node remembers of its failures.
@@ -43,8 +43,8 @@ impl Backoff {
         }
     }
 
-    /// How long to hold back what the node would enter by itself. The next time it is twice as
-    /// long.
+    /// Returns how long to hold back what the node would store by itself. The next time it is twice
+    /// as long.
     pub fn next_pause(&mut self) -> Duration
         ensures time { as_nanos result ≡ self.old.pause_ms * 1_000_000 }
         ensures next { self.new ≡ paused self.old }
@@ -54,7 +54,7 @@ impl Backoff {
         Duration::from_millis(pause_ms)
     }
 
-    /// How long to rest before it tries again. The next time it is twice as long.
+    /// Returns how long to rest before the next try. The next time it is twice as long.
     pub fn next_rest(&mut self) -> Duration
         ensures time { as_nanos result ≡ self.old.rest_ms * 1_000_000 }
         ensures next { self.new ≡ rested self.old }
@@ -64,14 +64,14 @@ impl Backoff {
         Duration::from_millis(rest_ms)
     }
 
-    /// What it tried came to something.
+    /// Records that a try succeeded.
     pub fn end_rest(&mut self)
         ensures { self.new ≡ tried self.old }
     {
         self.rest_ms = FIRST_REST_MS;
     }
 
-    /// Notes that a run had its threads.
+    /// Records that a run had its threads.
     pub fn note_run(&mut self)
         ensures { self.new ≡ ran self.old }
     {
@@ -79,21 +79,21 @@ impl Backoff {
         self.rest_ms = FIRST_REST_MS;
     }
 
-    /// Whether a run had its threads since the start.
+    /// Whether a run has had its threads since the start.
     pub fn has_run(&self) -> bool
         ensures { result ≡ self.now.has_run }
     {
         self.has_run
     }
 
-    /// Begins anew: something was stored.
+    /// Starts over: something was stored.
     pub fn forget(&mut self)
         ensures { self.new ≡ stored self.old }
     {
         self.pause_ms = FIRST_PAUSE_MS;
     }
 
-    /// Notes a warning. It says whether it may be given at this moment.
+    /// Records a warning. Returns whether it may be given at this moment.
     pub fn note_warning(&mut self, now: Duration) -> bool
         ensures may { result ≡ not (is_quiet now self.old.warned) }
         ensures noted { self.new ≡ warned_at now self.old }

@@ -6,7 +6,7 @@ use lra_book::Book;
 use sqlite::Alter;
 use std::alloc::Global;
 
-/// A book on which no run is on.
+/// A book in which no run is on.
 #[derive(Drop)]
 pub struct Shut<S: Alter + Drop> {
     pub book: Book<S>,
@@ -20,7 +20,7 @@ pub struct Begun<S: Alter + Drop> {
     ghost fresh: { IsFresh book },
 }
 
-/// A book with a run begun; the same book where there is no memory for one.
+/// Begins a run in a book. Errors: the same book, if there is no memory for a run.
 pub fn begun_by<S: Alter + Drop>(alloc: Global, shut: Shut<S>) -> Result<Begun<S>, Shut<S>> {
     let Shut { mut book } = shut;
     match book.start_run(alloc) {

@@ -6,10 +6,10 @@ use lra_book::{Call, Clerk, Receipt, Reply};
 use lra_facts::Refusal;
 use std::alloc::Global;
 
-/// Refuses each call (E19), since there is no journal to enter it.
+/// A clerk that refuses each call (E19), because there is no journal to store it in.
 #[derive(Drop)]
 pub struct Closed {
-    /// Those with which it began: none.
+    /// The receipts with which it began: none.
     receipts: Vec<Receipt>,
 }
 

@@ -10,7 +10,7 @@ use std::sync::Wait;
 use std::thread::{Scope, Threads};
 use std::time::Clock;
 
-/// How many threads that call participants.
+/// How many threads call participants.
 const CALLERS: usize = 4;
 
 /// What a thread does that outlives the runs of its node.
@@ -20,15 +20,15 @@ pub(crate) enum Role {
     Watch,
     /// It calls participants.
     Call,
-    /// It takes connections.
+    /// It accepts connections.
     Accept,
     /// It pulls from the other nodes of its process in turn.
     Pull,
-    /// It pulls from this node, in a process of its own.
+    /// It pulls from the node with this number, which is in a process of its own.
     Follow(u8),
 }
 
-/// Adds who pulls from the other nodes.
+/// Adds the threads that pull from the other nodes.
 fn push_pullers(
     roles: &mut Vec<Role>,
     me: u8,
@@ -49,8 +49,8 @@ fn push_pullers(
     Ok(())
 }
 
-/// What the threads do that outlive the runs of a node: one watches, some call, one accepts, and
-/// some pull.
+/// Returns what the threads do that outlive the runs of a node: one watches, some call, one
+/// accepts, and some pull.
 pub(crate) fn roles_of(alloc: Global, node: &Node) -> Result<Vec<Role>, AllocError> {
     let mut roles = Vec::new(alloc);
     roles.push(Role::Watch)?;
@@ -84,8 +84,8 @@ fn help<R: Wait + Clock + Sockets, L: Log>(
     }
 }
 
-/// Starts a thread for a role. It says whether one could be had. (As in `run`, each start is a
-/// function of its own.)
+/// Starts a thread for a role. Returns whether a thread was to be had. (As in `run`, each start is
+/// a function of its own.)
 pub(crate) fn start_helper<'s, E, R, L>(
     scope: &Scope<'s, E>,
     rt: &'s R,

@@ -12,20 +12,20 @@ use std::string::String;
 pub enum Unopened {
     /// Another handle has it open.
     Locked,
-    /// There is no folder, or no right to the file, or no file is left.
+    /// There is no folder, no right to the file, or no file handle left.
     NoFile,
     /// The disk failed, or is full.
     DiskFailed,
-    /// No memory can be had.
+    /// Memory ran out.
     NoMemory,
-    /// It is no database, or one of other tables; or the disk failed as it was read.
+    /// It is not a database, or has other tables; or the disk failed while it was read.
     NoJournal,
     /// The file that was open before is gone.
     Missing,
     /// It has fewer facts than the one that was open before.
     Older,
-    /// It isn't this node's journal: behind so many rows comes one that breaks the format, or that
-    /// another node wrote.
+    /// It isn't this node's journal: behind this many rows comes one that breaks the format, or
+    /// that another node wrote.
     Broken(u64),
 }
 
@@ -67,13 +67,13 @@ pub trait Stores {
     /// Opens the journal of a node, or makes it.
     fn open(&self, number: u8) -> Result<Connection<Self::Store>, Unopened>;
 
-    /// Whether its file is there, and can be read; or why not. (A second method that gives a
-    /// connection costs `main` of a program more steps than a check may take.)
+    /// Checks that the journal's file is there and can be read. Errors: why not. (A second method
+    /// that returns a connection costs `main` of a program more steps than a check may take.)
     fn is_there(&self, number: u8) -> Result<(), Unopened>;
 }
 
 /// A folder in which node I has its journal in the file `node-I.db`. The program says what it
-/// supposes of the files as they are opened.
+/// assumes about the files when they are opened.
 #[derive(Drop)]
 pub struct Folder<T: Start + Send + Copy> {
     host: HostRuntime,
@@ -82,13 +82,13 @@ pub struct Folder<T: Start + Send + Copy> {
 }
 
 impl<T: Start + Send + Copy> Folder<T> {
-    /// The folder at this path, whose files are opened from this start. It has to be there.
+    /// Makes a folder of this path, whose files are opened from this start. The folder must exist.
     pub fn new(host: HostRuntime, path: String, start: T) -> Folder<T> {
         Folder { host, path, start }
     }
 }
 
-/// Why a journal can't be opened that is answered so.
+/// Returns why a journal can't be opened, given the database's error.
 fn unopened_by(error: Error) -> Unopened {
     match error {
         Error::SqliteFailure(code) => match code {
@@ -102,7 +102,7 @@ fn unopened_by(error: Error) -> Unopened {
     }
 }
 
-/// Why a journal can't be opened whose file can't be.
+/// Returns why a journal can't be opened, given the error of its file.
 fn unread_by(kind: ErrorKind) -> Unopened {
     match kind {
         ErrorKind::NotFound => Unopened::Missing,
@@ -110,8 +110,8 @@ fn unread_by(kind: ErrorKind) -> Unopened {
     }
 }
 
-/// The path of a node's journal in a folder. (It is a function of no type: see docs/PROVING.md,
-/// "assumed of this thread alone".)
+/// Returns the path of a node's journal in a folder. (It is a function of no type: see
+/// docs/PROVING.md, "assumed of this thread alone".)
 fn file_of(alloc: Global, folder: &str, number: u8) -> Result<String, Unopened> {
     match format!(in alloc; "{folder}/node-{number}.db") {
         Ok(file) => Ok(file),
@@ -124,7 +124,7 @@ impl<T: Start + Send + Copy> Stores for Folder<T> {
 
     fn open(&self, number: u8) -> Result<Connection<FileStore<FileFrom<T>>>, Unopened> {
         let file = file_of(self.host.alloc(), self.path.as_str(), number)?;
-        // (a new file has no sums)
+        // (A new file has no sums.)
         match Connection::open_from(&self.host, file.as_str(), false, self.start) {
             Ok(connection) => Ok(connection),
             Err((error, _)) => Err(unopened_by(error)),

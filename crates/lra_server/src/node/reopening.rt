@@ -1,4 +1,4 @@
-// A node's book, opened, and opened again once its journal has failed.
+// Opens a node's book, and opens it again after its journal has failed.
 ghost use Rattle.std.specs.Prelude.{◌≡◌, IfOk, IfSome, None};
 ghost use Rattle.lra_id.specs.Fronts.{IsBelow};
 
@@ -23,7 +23,7 @@ use std::time::{Clock, Duration};
 /// How many files a journal takes, with its log and the look at its folder.
 const FILES: u8 = 4;
 
-/// The book of a node, whose journal is opened, or why it can't be opened.
+/// Opens the journal of a node, and returns its book. Errors: why it can't be opened.
 pub fn open_book<S: Stores>(
     alloc: Global,
     stores: &S,
@@ -35,8 +35,8 @@ pub fn open_book<S: Stores>(
     book_over(alloc, node, connection)
 }
 
-/// The same of one that was open before, and had these facts at least. It makes no file, and takes
-/// none with fewer facts.
+/// Does the same for a journal that was open before, and had at least these facts. It makes no
+/// file, and accepts none with fewer facts.
 fn book_again<S: Stores>(
     alloc: Global,
     stores: &S,
@@ -54,7 +54,7 @@ fn book_again<S: Stores>(
     Ok(book)
 }
 
-/// The book of a node over a connection to its journal.
+/// Makes the book of a node over a connection to its journal.
 fn book_over<S: Alter + Drop>(
     alloc: Global,
     node: &Node,
@@ -74,7 +74,7 @@ fn book_over<S: Alter + Drop>(
     }
 }
 
-/// Warns that a journal can't be opened again, once a second at most.
+/// Warns that a journal can't be opened again, at most once a second.
 fn warn_of_journal<R: Clock, L: Log>(
     rt: &R,
     log: &L,
@@ -88,15 +88,16 @@ fn warn_of_journal<R: Clock, L: Log>(
     }
 }
 
-/// Closes the connections that have waited longest for a worker, so that a journal and its log find
-/// a file each.
+/// Closes the connections that have waited longest for a worker, so that a journal and its log each
+/// find a file handle.
 fn close_some<R: Wait>(rt: &R, node: &Node) {
     for _turn in 0..FILES {
         node.queue.close_first(rt);
     }
 }
 
-/// Answers what comes while the journal is closed: E19, for so long or until the program is to end.
+/// Answers what comes while the journal is closed with E19, for this long or until the program is
+/// to end.
 fn refuse_for<R: Wait + Clock + Sockets>(
     rt: &R,
     alloc: Global,
@@ -123,9 +124,9 @@ fn refuse_for<R: Wait + Clock + Sockets>(
     }
 }
 
-/// The book of a node whose journal was closed, with these facts at least, opened again once that can
-/// be done; none where the program is to end before. Meanwhile each request is refused. Each time it
-/// is longer before it tries again.
+/// Opens again the book of a node whose journal was closed with at least these facts, once that is
+/// possible; returns `None` if the program is to end before that. Meanwhile each request is
+/// refused. The time before the next try grows each time.
 pub fn reopened<R, L: Log, S: Stores>(
     rt: &R,
     log: &L,

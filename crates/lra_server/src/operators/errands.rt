@@ -1,4 +1,4 @@
-// Calls that a node's operators want made, which the thread that enters makes.
+// Calls that a node's operators want, and that the writer thread makes.
 ghost use Rattle.std.specs.Prelude.{◌≡◌, IfSome, true};
 ghost use Rattle.lra_server.specs.Entering.{fits};
 
@@ -11,7 +11,7 @@ use lra_threads::Node;
 use std::sync::{Condvar, CondvarTimeouts, Mutex, Wait};
 use std::time::{Clock, Duration};
 
-/// How long is waited for a call to be made at once.
+/// How long one wait for a call takes.
 const SLICE_MS: u64 = 100;
 
 /// How often that is waited: five seconds in all.
@@ -25,14 +25,14 @@ pub(crate) struct Errand {
     pub(crate) now: u64,
 }
 
-/// What came of one.
+/// The result of a call.
 #[derive(Drop)]
 struct Done {
     number: u64,
     outcome: Result<Reply, Refusal>,
 }
 
-// What lies under the lock.
+// What the lock guards.
 #[derive(Drop)]
 struct Counter {
     /// The number of the last call that was wanted.
@@ -43,8 +43,8 @@ struct Counter {
     done: Option<Done>,
 }
 
-/// Whether a call may be made for operators who want one of this kind: for a question none that
-/// enters something.
+/// Whether a call may be made for operators who want a call of this kind: if they want a question,
+/// none that may store something.
 fn fits(wanted: Wanted, call: &Call) -> bool
     ensures { result ≡ fits wanted call.now }
 {
@@ -55,9 +55,9 @@ fn fits(wanted: Wanted, call: &Call) -> bool
     }
 }
 
-/// Where one thread, which serves operators, asks for calls, and the one that enters makes them.
-/// Nothing is waited for at the desk: a call that isn't made in time is taken back, or its reply is
-/// dropped.
+/// Where the thread that serves operators asks for calls, and the writer thread makes them. The
+/// operators' thread never waits at the desk: a call that isn't made in time is withdrawn, or its
+/// reply is dropped.
 #[derive(Drop)]
 pub struct Errands {
     counter: Mutex<Counter>,
@@ -65,7 +65,7 @@ pub struct Errands {
 }
 
 impl Counter {
-    /// The call that is to be made, if it is of this kind; another is left.
+    /// Takes the call that is to be made, if it is of this kind; any other is left.
     fn next(&mut self, wanted: Wanted) -> Option<Errand>
         ensures { IfSome result (λ errand. fits wanted errand.call ≡ true) }
     {
@@ -77,7 +77,7 @@ impl Counter {
         None
     }
 
-    /// What came of the last call that was wanted, if it was made.
+    /// Takes the result of the last call that was wanted, if it was made.
     fn take(&mut self) -> Option<Result<Reply, Refusal>> {
         let done = self.done.take()?;
         if done.number == self.number {
@@ -101,7 +101,7 @@ impl Errands {
         }
     }
 
-    /// Wants a call made.
+    /// Asks for a call to be made.
     pub(crate) fn want<R: Wait>(&self, rt: &R, call: Call, now: u64) {
         let mut counter = self.counter.lock(rt);
         let number = counter.number.saturating_add(1);
@@ -111,7 +111,7 @@ impl Errands {
         counter.wanted = Some(Errand { number, call, now });
     }
 
-    // What came of the call that was wanted last, if it is made within a slice.
+    // Returns the result of the last call that was wanted, if it is made within a slice.
     fn wait_a_slice<R: Wait + Clock>(&self, rt: &R) -> Option<Result<Reply, Refusal>> {
         let time = Duration::from_millis(SLICE_MS);
         let (mut counter, _) = self.made.wait_timeout_while(
@@ -123,9 +123,10 @@ impl Errands {
         counter.take()
     }
 
-    /// What came of the call that was wanted last. Where it isn't made in time, a call waits too long at
-    /// the desk, the node's journal is closed meanwhile, or the program is to end, it is taken back
-    /// (E19); or, where that is too late, nobody knows whether it is made (E18).
+    /// Waits for the result of the last call that was wanted. If it isn't made in time, a call
+    /// waits too long at the desk, the node's journal is closed meanwhile, or the program is to
+    /// end, the call is withdrawn (E19); or, if it is too late for that, it is unknown whether it
+    /// is made (E18).
     pub(crate) fn wait<R: Wait + Clock>(&self, rt: &R, node: &Node) -> Result<Reply, Refusal> {
         for _slice in 0..SLICES {
             if let Some(outcome) = self.wait_a_slice(rt) {
@@ -138,7 +139,7 @@ impl Errands {
         self.give_up(rt, node.mailbox.take_back(rt))
     }
 
-    /// What is answered where a call isn't waited for any more, which was taken back or wasn't.
+    /// Returns the answer to a call that is no longer waited for, given whether it was withdrawn.
     fn give_up<R: Wait>(&self, rt: &R, is_back: bool) -> Result<Reply, Refusal> {
         let mut counter = self.counter.lock(rt);
         if let Some(outcome) = counter.take() {
@@ -152,14 +153,14 @@ impl Errands {
         Err(Refusal::JournalFailed)
     }
 
-    /// The call that is to be made, if one of this kind is.
+    /// Takes the call that is to be made, if there is one of this kind.
     pub(crate) fn next<R: Wait>(&self, rt: &R, wanted: Wanted) -> Option<Errand>
         ensures { IfSome result (λ errand. fits wanted errand.call ≡ true) }
     {
         self.counter.lock(rt).next(wanted)
     }
 
-    /// Tells what came of a call. It says whether somebody waits for that still.
+    /// Reports the result of a call. Returns whether somebody still waits for it.
     pub(crate) fn tell<R: Wait>(
         &self,
         rt: &R,

@@ -1,4 +1,4 @@
-// What a node's threads know of it, as its operators are told.
+// What a node's threads know about it, for its operators.
 
 use lra_http::Bytes;
 use lra_metrics::{calls_of, metrics_of};
@@ -8,8 +8,8 @@ use std::alloc::{AllocError, Global};
 use std::sync::Wait;
 use std::time::Clock;
 
-/// What the threads of a node know of it, and why it entered no commands when that was last looked
-/// at, if it didn't.
+/// What the threads of a node know about it, and why it accepted no commands when that was last
+/// checked, if it didn't.
 #[derive(Clone, Copy)]
 pub struct Known<'n, R> {
     pub rt: &'n R,
@@ -28,7 +28,7 @@ impl<'n, R: Wait + Clock> State for Known<'n, R> {
 
     ghost causes = { λ k cause. cause ≡ option_copied k.cause };
 
-    // What the threads know stands under locks, of which no clause tells; nor does one of the names
+    // No clause speaks of what the threads know, because it stands under locks, nor of the names
     // that the program was given.
     ghost named = { λ _ _. ⊤ };
 

@@ -1,4 +1,4 @@
-// The clerk of the thread that serves operators: it has the thread that enters make its calls.
+// The clerk of the thread that serves operators: it has the writer thread make its calls.
 ghost use Rattle.std.specs.Prelude.{⊤, Err, IfErr, Ok, OnOk};
 ghost use Rattle.lra_book.specs.Clerks.{IsOfClerk, IsOutcome, last_reply};
 
@@ -17,15 +17,16 @@ use std::sync::Wait;
 use std::time::{Clock, Duration};
 use std::{str, thread};
 
-/// How long an answer waits at most until other nodes have what it shows, and how often that is looked
-/// at.
+/// How long an answer waits at most until other nodes have what it shows, and how often that is
+/// checked.
 const COPIES_MS: u64 = 1_000;
 
 const LOOK_MS: u64 = 2;
 
-/// Has calls made by the thread that enters. It refuses them at once (E19) where the journal is closed,
-/// or a call has waited for a second at the desk; and commands while the journal is spared, the others
-/// aren't heard, or are to have more first. What it answers waits until they have it.
+/// A clerk whose calls the writer thread makes. It refuses them at once (E19) if the journal is
+/// closed, or a call has waited for a second at the desk. It also refuses commands while nothing is
+/// stored because the journal failed, while the others weren't heard from, or must first have more.
+/// Its answers wait until the others have what they show.
 #[derive(Drop)]
 pub struct OperatorClerk<'n, R, L> {
     rt: &'n R,
@@ -52,8 +53,9 @@ impl<'n, R: Wait + Clock, L: Log> OperatorClerk<'n, R, L> {
         }
     }
 
-    // Whether nothing is to be entered: the program is about to end, the journal is spared, the other
-    // nodes aren't heard or have more of this one's facts, or too few have what is stored.
+    // Whether nothing may be stored: the program is about to end, the journal just failed, the
+    // other nodes weren't heard from or have more of this one's facts, or too few have what is
+    // stored.
     fn is_held_back(&self) -> bool {
         self.node.is_ending()
             || self.node.mailbox.is_spared(self.rt)
@@ -61,15 +63,15 @@ impl<'n, R: Wait + Clock, L: Log> OperatorClerk<'n, R, L> {
             || self.node.followers.refuses(self.rt)
     }
 
-    // Whether nothing is asked of the thread that enters: it has no journal, is to answer nothing, or
-    // would have to wait behind a call that has waited too long.
+    // Whether nothing is asked of the writer thread: it has no journal, is to answer nothing, or a
+    // call would wait behind one that has waited too long.
     fn is_closed(&self) -> bool {
         self.node.is_shut()
             || self.node.answers_nothing(self.rt)
             || self.node.desk.stalls(now(self.rt))
     }
 
-    // Has a call made.
+    // Has the writer thread make a call.
     fn make(&self, call: Call, now: u64) -> Result<Reply, Refusal> {
         if self.is_closed() || (enters(&call) && self.is_held_back()) {
             return Err(Refusal::Stopped);
@@ -81,7 +83,7 @@ impl<'n, R: Wait + Clock, L: Log> OperatorClerk<'n, R, L> {
     }
 }
 
-/// What a call is to the thread that enters.
+/// Returns what kind of call it is for the writer thread.
 fn wanted_by(call: &Call) -> Wanted {
     if enters(call) {
         Wanted::Command
@@ -90,14 +92,14 @@ fn wanted_by(call: &Call) -> Wanted {
     }
 }
 
-/// Tells of what was said in the place of a participant.
+/// Logs what was said on behalf of a participant.
 fn warn_of<L: Log>(log: &L, number: u8, id: LraId, member: u8, what: &str) {
     let text = id.to_text();
     let text = str::from_utf8(&text).unwrap_or("");
     warn!(log; "node {number}: an operator says that /lra/{text}/member/{member} {what}");
 }
 
-/// What is reported of an act.
+/// Returns the words for what is reported of an act.
 fn reported(act: Act, outcome: Outcome) -> &'static str {
     match (act, outcome) {
         (Act::Complete, Outcome::Busy) => "is completing",
@@ -109,8 +111,8 @@ fn reported(act: Act, outcome: Outcome) -> &'static str {
     }
 }
 
-/// Tells of it, where a command speaks in a participant's place: of an act, that it forgot, or that
-/// it was told.
+/// Logs a command that speaks on behalf of a participant: of an act, that it forgot, or that it was
+/// notified.
 fn warn_by<L: Log>(log: &L, number: u8, command: &Command) {
     match command {
         Command::Report {
@@ -125,7 +127,7 @@ fn warn_by<L: Log>(log: &L, number: u8, command: &Command) {
     }
 }
 
-/// Whether a report, a forgot or a told was entered.
+/// Whether a report, a forgot or a told was recorded.
 fn is_entered(reply: &Reply) -> bool {
     matches!(
         reply,
@@ -133,8 +135,8 @@ fn is_entered(reply: &Reply) -> bool {
     )
 }
 
-/// What is answered where too few others have what an answer shows, and that is strict: nobody knows
-/// whether a command is kept (E18), and of a question nothing was done (E19).
+/// Returns the answer if too few other nodes have what an answer shows, and copies are strict: it
+/// is unknown whether a command is kept (E18), and for a question nothing was done (E19).
 fn unacknowledged(call: &Call) -> Refusal
     ensures { IsOfClerk result }
 {
@@ -145,7 +147,7 @@ fn unacknowledged(call: &Call) -> Refusal
     }
 }
 
-/// A refusal of a clerk: E17 to E21.
+/// Makes it a refusal of a clerk: E17 to E21.
 fn of_clerk(refusal: Refusal) -> Refusal
     ensures { IsOfClerk result }
 {
@@ -177,8 +179,8 @@ fn put_last(receipts: &mut Vec<Receipt>, call: Call, reply: Reply) -> Result<(),
 }
 
 impl<'n, R: Wait + Clock, L: Log> OperatorClerk<'n, R, L> {
-    // How an answer stands that waits for a ticket since a moment. It waits for a second at most, since
-    // others' questions wait behind it.
+    // Returns the standing of an answer that has waited for a ticket since a moment. It waits for
+    // at most a second, because the questions of others wait behind it.
     fn stand(&self, ticket: u64, since: Duration) -> Standing {
         let standing = self.node.followers.stand(self.rt, ticket, since);
         let is_over = now(self.rt).saturating_sub(since) >= Duration::from_millis(COPIES_MS);
@@ -188,8 +190,8 @@ impl<'n, R: Wait + Clock, L: Log> OperatorClerk<'n, R, L> {
         standing
     }
 
-    // Waits until other nodes have what an answer may show. It says whether it may be given: one that
-    // is late isn't where that is strict.
+    // Waits until other nodes have what an answer may show. Returns whether it may be given: a late
+    // answer may not if copies are strict.
     fn wait_for_copies(&self) -> bool {
         let (ticket, followers) = (self.node.target(self.rt), &self.node.followers);
         if ticket == 0 {
@@ -210,7 +212,7 @@ impl<'n, R: Wait + Clock, L: Log> OperatorClerk<'n, R, L> {
         unreachable!()
     }
 
-    // Tells of what was said in the place of a participant, if it was entered.
+    // Logs what was said on behalf of a participant, if it was recorded.
     fn tell(&self, call: &Call, reply: &Reply) {
         if let Call::Command(command) = call {
             if is_entered(reply) {
@@ -223,7 +225,7 @@ impl<'n, R: Wait + Clock, L: Log> OperatorClerk<'n, R, L> {
 impl<'n, R: Wait + Clock, L: Log> Clerk for OperatorClerk<'n, R, L> {
     ghost receipts = { λ w. w.receipts.items };
 
-    // Nothing is said of who made the call: it went to another thread.
+    // Nothing is said about who made the call: it went to another thread.
     ghost called = { λ _ _ _ _ _. ⊤ };
 
     fn call(&mut self, _alloc: Global, call: Call, now: u64) -> Result<(), Refusal> {

@@ -1,10 +1,10 @@
-// What a program says of the files that it opens.
+// What a program assumes about the files that it opens.
 
 use sqlite::Start;
 use std::fs::File;
 
-/// Nothing is known of what a file held, and it is supposed that a torn write leaves each byte old
-/// or new. The kit's `Unknown` says the same, but can't be copied. A start is a type, and one
+/// Nothing is known about what a file held, and a torn write is assumed to leave each byte either
+/// old or new. The kit's `Unknown` says the same, but can't be copied. A start is a type, and one
 /// serves all files and openings.
 #[derive(Clone, Copy, Drop)]
 pub struct UnknownFiles;
@@ -23,8 +23,8 @@ impl Start for UnknownFiles {
     }
 }
 
-/// Opens nothing, so that no connection gets the number of a standard stream that was closed before
-/// the start: what is written to standard error would go to a client.
+/// Opens `/dev/null`, so that no connection gets the number of a standard stream that was closed
+/// before the start: otherwise what is written to standard error would go to a client.
 pub fn hold(rt: &HostRuntime) -> Option<File> {
     File::open(rt, "/dev/null").ok()
 }

@@ -1,4 +1,5 @@
-// The thread that enters what the others hear, in each run of a node.
+// The writer thread, in each run of a node: it applies what the other threads received, and
+// everything else that changes the journal without a client.
 ghost use Rattle.std.specs.Prelude.{◌≡◌, IfErr, IfOk, IfSome, List, Option, true};
 ghost use Rattle.lra_facts.specs.declared.refusal.Refusal.TheVariants.{NoMemory};
 ghost use Rattle.lra_book.specs.declared.calls.Call.TheVariants.{Duties as AskDuties, Expire as AskExpire, Take as TakeDelta};
@@ -25,13 +26,13 @@ use std::sync::Wait;
 use std::thread;
 use std::time::{Clock, Duration};
 
-/// How long it is from one look at the pulls and answers that wait to the next.
+/// The time from one look at the waiting pulls and answers to the next.
 const LOOK_MS: u64 = 200;
 
-/// How long it rests where memory runs out.
+/// How long it rests if memory runs out.
 const REST_MS: u64 = 20;
 
-/// Enters what was heard. A letter that the clerk refuses goes back.
+/// Records what a participant answered. A letter that the clerk refuses goes back.
 fn enter<R: Wait + Clock, C: Clerk>(
     rt: &R,
     alloc: Global,
@@ -56,12 +57,12 @@ fn enter<R: Wait + Clock, C: Clerk>(
     }
 }
 
-/// Whether an LRA was cancelled since its deadline had passed.
+/// Whether an LRA was cancelled because its deadline had passed.
 fn is_expired(reply: &Reply) -> bool {
     matches!(reply, Reply::Expired(_))
 }
 
-/// Whether what another node told was taken. Why it was refused is noted.
+/// Whether what another node sent was taken. The reason for a refusal is recorded.
 fn note_told(node: &Node, from: NodeId, reply: &Reply) -> bool {
     if let Some(number) = refused_by(reply) {
         node.note_refused(from, number);
@@ -69,8 +70,8 @@ fn note_told(node: &Node, from: NodeId, reply: &Reply) -> bool {
     is_taken(reply)
 }
 
-/// A copy of what another node told, to be kept where the journal can't take it. None is where the
-/// nodes are in one process, whose disk is one.
+/// Copies what another node sent, to be kept if the journal can't take it. Makes no copy if all
+/// nodes are in one process, whose disk is the same.
 fn spare_of(node: &Node, telling: &Telling) -> Option<Telling> {
     if !node.site.is_apart() {
         return None;
@@ -78,8 +79,8 @@ fn spare_of(node: &Node, telling: &Telling) -> Option<Telling> {
     telling.copy().ok()
 }
 
-/// What becomes of what another node told and couldn't be taken, which has this front. Where memory
-/// ran out it isn't kept, but told again.
+/// Decides what happens to what another node sent and couldn't be taken, which has this front. If
+/// memory ran out it isn't kept, but sent again.
 fn keep<R: Wait + Clock>(
     rt: &R,
     node: &Node,
@@ -97,7 +98,7 @@ fn keep<R: Wait + Clock>(
     }
 }
 
-/// Takes what another node told. What couldn't be taken is kept.
+/// Takes what another node sent. What couldn't be taken is kept.
 fn take<R: Wait + Clock, C: Clerk>(
     rt: &R,
     alloc: Global,
@@ -126,7 +127,7 @@ fn take<R: Wait + Clock, C: Clerk>(
     taken
 }
 
-/// The participants that are to be called, by a reply.
+/// Returns the participants that are to be called, given a reply.
 fn duties_of(reply: &Reply) -> Result<Option<Duties>, Refusal>
     ensures duties { IfOk result (λ duties. duties ≡ duties_in reply.now) }
     ensures error { IfErr result (λ refusal. refusal ≡ NoMemory) }
@@ -140,7 +141,7 @@ fn duties_of(reply: &Reply) -> Result<Option<Duties>, Refusal>
     }
 }
 
-/// Asks who is to be called.
+/// Asks for a new list of duties.
 fn ask<R: Wait + Clock, C: Clerk>(
     rt: &R,
     alloc: Global,
@@ -173,8 +174,8 @@ fn expire<R: Wait + Clock, C: Clerk>(
     Ok(())
 }
 
-/// Asks as one that has all facts: so nothing is told but how many this node has. After that the
-/// others are asked, and hear of it (`Node::hear_front`).
+/// Asks as a node would that has all facts: so the answer only says how many this node has. After
+/// that the other nodes are asked, and learn it from the question (`Node::hear_front`).
 fn count<R: Wait + Clock, C: Clerk>(
     rt: &R,
     alloc: Global,
@@ -202,7 +203,8 @@ fn make<C: Clerk>(alloc: Global, clerk: &mut C, call: Call, now: u64) -> Result<
     }
 }
 
-/// Hands back what came of a call that operators want. One for which nobody waits any more is told.
+/// Hands back the result of a call that operators want. If nobody waits for it any more, that is
+/// counted.
 fn hand_back<R: Wait>(
     rt: &R,
     node: &Node,
@@ -246,7 +248,7 @@ fn told(outcome: &Result<Reply, Refusal>) -> Result<(), Refusal>
     }
 }
 
-/// Does a task. What was to be asked and wasn't is asked later.
+/// Does a task. A question that failed is asked again later.
 fn do_task<R: Wait + Clock, C: Clerk>(
     rt: &R,
     alloc: Global,
@@ -281,7 +283,8 @@ fn do_task<R: Wait + Clock, C: Clerk>(
     }
 }
 
-/// Has pulls and answers that wait looked at again, some times a second. It gives when that was last done.
+/// Makes waiting pulls and answers be looked at again, some times a second. Returns when that was
+/// last done.
 fn look_again<R: Wait + Clock>(rt: &R, node: &Node, last: Duration) -> Duration {
     let moment = now(rt);
     let is_due = moment.saturating_sub(last) >= Duration::from_millis(LOOK_MS);
@@ -297,7 +300,7 @@ fn look_again<R: Wait + Clock>(rt: &R, node: &Node, last: Duration) -> Duration 
     moment
 }
 
-/// Ends the run where a refusal does, and rests for a moment where memory runs out.
+/// Ends the run if the refusal does; rests for a moment if memory ran out.
 fn rest<R: Wait + Clock + Sockets>(rt: &R, node: &Node, refusal: Refusal) {
     match ending_by(refusal) {
         Some(refusal) => node.end_run(rt, stop_reason_of(refusal)),
@@ -305,8 +308,8 @@ fn rest<R: Wait + Clock + Sockets>(rt: &R, node: &Node, refusal: Refusal) {
     }
 }
 
-/// Enters what the threads that call and pull hear, looks for deadlines, sweeps, and makes the
-/// calls that operators want, until the run is over. It gives the clerk back.
+/// Records what the caller and puller threads received, looks for deadlines, sweeps, and makes the
+/// calls that operators want, until the run is over. Returns the clerk.
 pub fn enter_all<R: Wait + Clock + Sockets, C: Clerk + Drop>(
     rt: &R,
     alloc: Global,

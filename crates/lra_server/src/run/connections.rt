@@ -15,18 +15,17 @@ use std::sync::Wait;
 use std::time::{Clock, Duration};
 use std::{io, thread};
 
-/// How long a worker may take to write its answer. What its client doesn't take at once is sent on
-/// without it.
+/// How long a worker may take to write its answer. What its client doesn't accept at once is sent
+/// later without the worker.
 const ANSWER_MS: u64 = 10_000;
 
-/// How long is waited for a connection where no run is on, before it is looked whether the program
-/// is to end.
+/// How long to wait for a connection between runs before checking whether the program is to end.
 const LOOK_MS: u64 = 50;
 
-/// How long it is, where no run is on, from one look at the pulls and answers that wait to the next.
+/// The time, between runs, from one look at the waiting pulls and answers to the next.
 const AGAIN_MS: u64 = 100;
 
-/// How long a worker rests where nothing comes of all that wait.
+/// How long a worker rests if nothing comes from any connection that waits.
 const REST_MS: u64 = 2;
 
 /// What a worker takes from the queue of its node.
@@ -35,23 +34,23 @@ pub struct Connections<'a, R: Wait + Clock> {
     rt: &'a R,
     alloc: Global,
     node: &'a Node,
-    /// As whom it is asked.
+    /// The name by which the node is asked.
     addressee: &'a Addressee,
-    /// For what the answer of the one that is served waits, if answers wait.
+    /// What the answer on the served connection waits for, if answers wait.
     promise: Option<&'a Promise>,
-    /// When the pulls and answers that wait were last looked at, where no run is on.
+    /// When the waiting pulls and answers were last looked at, between runs.
     looked: Duration,
-    /// Until when they are taken; none where that is until the run is over.
+    /// Until when connections are taken; `None` if that is until the run is over.
     until: Option<Duration>,
     served: Option<Rc<SharedSocket>>,
-    /// Whether the one that is served is a long request, which is read as it comes.
+    /// Whether the served connection has a long request, which is read as it comes.
     is_reading: bool,
 }
 
-/// What a look at a connection comes to.
+/// The result of a look at a connection.
 #[derive(Drop)]
 enum Look {
-    /// Nothing has come of it yet. So many wait.
+    /// Nothing has come on it yet. This many connections wait.
     Nothing(usize),
     /// It is over, or held.
     Over,
@@ -63,7 +62,7 @@ enum Look {
 type Buffered<'a, R> = Connection<SocketReader<'a, R>, SocketWriter<'a, R>>;
 
 impl<'a, R: Wait + Clock> Connections<'a, R> {
-    /// From this node's queue, until its run is over.
+    /// Takes connections from this node's queue, until its run is over.
     pub fn new(
         rt: &'a R,
         alloc: Global,
@@ -84,8 +83,8 @@ impl<'a, R: Wait + Clock> Connections<'a, R> {
         }
     }
 
-    /// From this node's queue, where no run is on, until this moment or until the program is to
-    /// end.
+    /// Takes connections from this node's queue between runs, until this moment or until the
+    /// program is to end.
     pub fn between_runs(
         rt: &'a R,
         alloc: Global,
@@ -106,7 +105,7 @@ impl<'a, R: Wait + Clock> Connections<'a, R> {
         }
     }
 
-    // Whether no more are to be taken.
+    // Whether no more connections are to be taken.
     fn is_over(&self) -> bool {
         match self.until {
             None => self.node.signal.stop_reason(self.rt).is_some(),
@@ -117,7 +116,7 @@ impl<'a, R: Wait + Clock> Connections<'a, R> {
         }
     }
 
-    // The first connection of the queue, once there is one.
+    // Takes the first connection of the queue, once there is one.
     fn first(&self) -> Option<PendingConnection> {
         match self.until {
             None => self.node.queue.take(self.rt),
@@ -131,7 +130,7 @@ impl<'a, R: Wait + Clock> Connections<'a, R> {
         }
     }
 
-    // Rests, since nothing comes of all that wait. Where no run is on nobody wakes it.
+    // Rests, because nothing comes from any connection that waits. Between runs nothing wakes it.
     fn rest(&self) {
         let time = Duration::from_millis(REST_MS);
         if self.until.is_none() {
@@ -141,8 +140,8 @@ impl<'a, R: Wait + Clock> Connections<'a, R> {
         }
     }
 
-    // A reader and a writer over a socket, on which a request is read within this limit. It is kept,
-    // to be closed when it is served.
+    // Makes a reader and a writer over a socket, on which a request is read within this limit. The
+    // socket is remembered, to be closed when it is served.
     fn buffer(&mut self, stream: TcpStream, reading: Limit) -> io::Result<Buffered<'a, R>> {
         let times = Times {
             reading,
@@ -169,14 +168,14 @@ impl<'a, R: Wait + Clock> Connections<'a, R> {
         })
     }
 
-    // Notes that a long request is read as it comes, until it is served.
+    // Records that a long request is read as it comes, until it is served.
     fn note_reading(&mut self) {
         self.is_reading = true;
         self.node.queue.note_reading();
     }
 
-    // Has pulls and answers that wait looked at again some times a second: where no run is on, nobody
-    // else does.
+    // Makes waiting pulls and answers be looked at again some times a second: between runs no other
+    // thread does that.
     fn look_again(&mut self) {
         if self.until.is_none() {
             return;
@@ -189,8 +188,8 @@ impl<'a, R: Wait + Clock> Connections<'a, R> {
         }
     }
 
-    // Looks at the next connection. One of which nothing comes makes room for those who speak, and a
-    // pull that is held leaves the queue.
+    // Looks at the next connection. If nothing comes on it, it makes room for connections with a
+    // request, and a pull that is held leaves the queue.
     fn look(&self, pending: PendingConnection) -> Look {
         let (queue, freed) = (&self.node.queue, self.node.queue.freed());
         let holding = Holding {
@@ -210,7 +209,7 @@ impl<'a, R: Wait + Clock> Connections<'a, R> {
         }
     }
 
-    // A reader and a writer over a socket whose request has come whole, or has begun.
+    // Makes a reader and a writer over a socket whose request has come whole, or has begun.
     fn serve(&mut self, stream: TcpStream, is_long: bool) -> Option<Buffered<'a, R>> {
         let reading = if is_long {
             Limit::of_millis(REQUEST_MS)
@@ -227,7 +226,7 @@ impl<'a, R: Wait + Clock> Connections<'a, R> {
         Some(connection)
     }
 
-    /// Closes the connection that was served, so that its client gets the answer whole.
+    /// Closes the connection that was served in such a way that its client gets the whole answer.
     pub fn close_served(&mut self) {
         if self.is_reading {
             self.is_reading = false;
@@ -244,7 +243,7 @@ impl<'a, R: Wait + Clock> Connections<'a, R> {
         }
     }
 
-    // Has an answer wait for a ticket, unless that is covered, or nobody waits now.
+    // Makes an answer wait for a ticket, unless that is covered, or nothing waits now.
     fn keep(&self, socket: Rc<SharedSocket>, ticket: u64) {
         let is_done = socket.is_done();
         let Some(socket) = Rc::into_inner(socket) else {
@@ -256,7 +255,7 @@ impl<'a, R: Wait + Clock> Connections<'a, R> {
         }
     }
 
-    // Keeps an answer until its ticket is covered, as it may be by then.
+    // Keeps an answer until its ticket is covered, which it may already be by now.
     fn keep_for(&self, pending: PendingConnection, ticket: u64) {
         let queue = &self.node.queue;
         queue.keep(self.rt, pending);
@@ -266,7 +265,7 @@ impl<'a, R: Wait + Clock> Connections<'a, R> {
         }
     }
 
-    // Puts off an answer until its ticket is covered, or a pull until those that are held are freed.
+    // Puts off an answer until its ticket is covered, or a pull until the held pulls are freed.
     fn put_off(&self, pending: PendingConnection, freed: u64) {
         match pending.ticket() {
             Some(ticket) => self.keep_for(pending, ticket),
@@ -280,7 +279,7 @@ impl<'a, R: Wait + Clock + Sockets> Arrivals for Connections<'a, R> {
 
     type Writer = SocketWriter<'a, R>;
 
-    // Nothing is known of what comes. A connection that can't be served is closed.
+    // Nothing is known about what comes. A connection that can't be served is closed.
     ghost gives = { λ _ _ _. ⊤ };
 
     fn next(&mut self) -> Option<Buffered<'a, R>> {

@@ -5,7 +5,7 @@ use lra_facts::{Command, CommandReply, Refusal};
 use lra_id::Verdict;
 use lra_threads::Asked;
 
-/// What a command asks for.
+/// Returns what a command asks for.
 fn asked_in(command: &Command) -> Asked {
     match command {
         Command::Begin { .. } => Asked::Begin,
@@ -23,7 +23,7 @@ fn asked_in(command: &Command) -> Asked {
     }
 }
 
-/// What a call asks for.
+/// Returns what a call asks for.
 pub(crate) fn asked_by(call: &Call) -> Asked {
     match call {
         Call::Command(command) => asked_in(command),
@@ -40,7 +40,7 @@ pub(crate) fn asked_by(call: &Call) -> Asked {
     }
 }
 
-/// The number of the refusal that a reply tells, if it does.
+/// Returns the number of the refusal in a reply, if there is one.
 pub(crate) fn refused_by(reply: &Reply) -> Option<u8> {
     match reply {
         Reply::Command(reply) => refused_in(reply),
@@ -56,7 +56,7 @@ fn refused_in(reply: &CommandReply) -> Option<u8> {
     }
 }
 
-/// The number of a refusal, 1 to 24.
+/// Returns the number of a refusal, 1 to 24.
 pub(crate) fn number_of(refusal: &Refusal) -> u8 {
     match refusal {
         Refusal::BadText => 1,

@@ -19,38 +19,38 @@ use std::alloc::Global;
 use std::sync::Wait;
 use std::time::Clock;
 
-/// How many facts of a frame, or duties of a list, count as one call more. The trail keeps each
+/// How many facts of a frame, or duties of a list, count as one more call. The trail keeps each
 /// frame and list, so a run with long ones ends early.
 const SHARE: u64 = 64;
 
-/// How many members of a record count so.
+/// How many members of a record count as one more call.
 const MEMBERS: u64 = 8;
 
-/// How many calls more a frame counts as at most: of the facts that it could tell, many may be
-/// purged.
+/// The most calls that a frame adds: many of the facts that it could have may be purged.
 const MAX_SHARES: u64 = 320;
 
-/// A clerk whose calls are counted, and after whose calls is noted what other threads are to go on
-/// with. They are told by the thread that makes the calls, once the answer is written
-/// (`Node::pass_on`), and so is the end of the run (`Node::end_if_spent`).
+/// A clerk that counts its calls, and records their effects for the other threads. The thread that
+/// makes the calls wakes those, once the answer is written (`Node::pass_on`), and ends the run then
+/// if it is nearly full (`Node::end_if_spent`).
 #[derive(Drop)]
 pub struct CountingClerk<'n, R, C: Clerk> {
     rt: &'n R,
     node: &'n Node,
     clerk: C,
-    /// At which place its thread is noted while it waits at the desk.
+    /// The place at which its thread is recorded while it waits at the desk.
     place: usize,
-    /// Whether commands are held back while the journal is spared, or the others aren't heard.
+    /// Whether commands are held back while the journal has just failed, or the others weren't
+    /// heard from.
     holds: bool,
-    /// Whether one was since that was last asked.
+    /// Whether one was held back since this was last asked.
     held: bool,
-    /// For what the answer of its thread waits, if it writes answers.
+    /// What the answer of its thread waits for, if it writes answers.
     promise: Option<&'n Promise>,
 }
 
 impl<'n, R, C: Clerk> CountingClerk<'n, R, C> {
-    /// Of the thread that enters what others hear. It holds nothing back: before the others are
-    /// heard, and while the journal is spared, it has nothing to enter.
+    /// Makes the clerk of the writer thread. It holds nothing back, because the writer thread has
+    /// nothing to store before the others were heard from, or while the journal has just failed.
     pub fn new(rt: &'n R, node: &'n Node, clerk: C, place: usize) -> CountingClerk<'n, R, C> {
         CountingClerk {
             rt,
@@ -63,9 +63,10 @@ impl<'n, R, C: Clerk> CountingClerk<'n, R, C> {
         }
     }
 
-    /// Of a worker. While the journal is spared after a failure, and while the others aren't heard
-    /// or have more of the node's facts, it refuses commands (E19), and asks the clerk all else; but
-    /// pulls alone where the disk may be lost. Its answers wait until other nodes have what they show.
+    /// Makes the clerk of a worker. After a failure of the journal, and while the others weren't
+    /// heard from or have more of the node's facts, it refuses commands (E19), and passes
+    /// everything else to the clerk; but only pulls if the disk may be lost. Its answers wait until
+    /// other nodes have what they show.
     pub fn of_worker(
         rt: &'n R,
         node: &'n Node,
@@ -91,7 +92,7 @@ impl<'n, R, C: Clerk> CountingClerk<'n, R, C> {
         held
     }
 
-    /// Gives the clerk back.
+    /// Returns the clerk.
     pub fn into_clerk(self) -> C {
         let CountingClerk {
             rt: _,
@@ -106,7 +107,7 @@ impl<'n, R, C: Clerk> CountingClerk<'n, R, C> {
     }
 }
 
-/// How many calls more a frame counts as, by the facts between its base and its front.
+/// Returns how many more calls a frame counts as, by the facts between its base and its front.
 fn shares_of(delta: &Delta) -> u64
     ensures { result ≤ 320 }
 {
@@ -118,7 +119,7 @@ fn shares_of(delta: &Delta) -> u64
     (facts / SHARE).min(MAX_SHARES)
 }
 
-/// How many calls a call counts as, by what it hands over.
+/// Returns how many calls a call counts as, by what it hands over.
 fn weight_of_call(call: &Call) -> u64 {
     match call {
         Call::Take(delta) => shares_of(delta).saturating_add(1),
@@ -126,7 +127,7 @@ fn weight_of_call(call: &Call) -> u64 {
     }
 }
 
-/// How many calls more it counts as, by its reply.
+/// Returns how many more calls it counts as, by its reply.
 fn weight_of_reply(reply: &Reply) -> u64 {
     match reply {
         Reply::Due(duties) => duties.as_slice().len() as u64 / SHARE,
@@ -136,7 +137,7 @@ fn weight_of_reply(reply: &Reply) -> u64 {
     }
 }
 
-/// How many facts one has that pulls, where that is to be heard.
+/// Returns the front of the node that pulls, if that matters.
 fn front_of(node: &Node, call: &Call) -> Option<Front> {
     match call {
         Call::Pull(body) => front_in(node, body.as_slice()),
@@ -144,17 +145,17 @@ fn front_of(node: &Node, call: &Call) -> Option<Front> {
     }
 }
 
-/// Whether nothing of the node's own is entered now: the journal is spared, the other nodes aren't
-/// heard or have more of its facts, or too few have what is stored. At a start a command has waited
-/// for the others in the queue (`Holding`).
+/// Whether nothing of the node's own is stored now: the journal has just failed, the other nodes
+/// weren't heard from or have more of its facts, or too few have what is stored. At a start, a
+/// command has already waited for the others in the queue (`Holding`).
 fn is_held_back<R: Wait + Clock>(rt: &R, node: &Node) -> bool {
     node.mailbox.is_spared(rt)
         || (node.site.is_apart() && node.mailbox.is_behind(rt))
         || node.followers.refuses(rt)
 }
 
-/// Whether a call is refused, and the clerk not asked: a command that is held back, or any but a pull at
-/// a node whose journal may be lost.
+/// Whether a call is refused without asking the clerk: a command that is held back, or any call but
+/// a pull at a node whose journal may be lost.
 fn is_refused<R: Wait + Clock>(rt: &R, node: &Node, call: &Call) -> bool {
     if node.answers_nothing(rt) && !matches!(call, Call::Pull(_)) {
         return true;
@@ -167,9 +168,9 @@ fn is_refused<R: Wait + Clock>(rt: &R, node: &Node, call: &Call) -> bool {
 struct Said {
     /// Whether it reports a completion.
     completes: bool,
-    /// The LRA of which it says that a participant was told what it was to be told.
+    /// The LRA of which it says that a participant was notified as it was to be.
     freed: Option<LraId>,
-    /// Of whom it says what became of it.
+    /// The participant whose outcome it reports.
     heard: Option<Called>,
 }
 
@@ -183,14 +184,14 @@ impl Said {
     }
 }
 
-/// Notes what the other threads are to go on with.
+/// Hands the effects of the call to the other threads.
 fn note<R: Wait + Clock>(rt: &R, node: &Node, noted: &Noted) {
     if is_any(noted) {
         node.mailbox.note(rt, noted);
     }
 }
 
-/// Notes what the other threads and nodes are to go on with after a reply (`Node::pass_on`).
+/// Records the effects of a reply that the other threads and nodes go on with (`Node::pass_on`).
 fn tell<R: Wait + Clock>(rt: &R, node: &Node, reply: &Reply, said: &Said) {
     if let Reply::Gave(delta) = reply {
         node.mailbox.count(rt, &delta.front());
@@ -205,7 +206,7 @@ fn tell<R: Wait + Clock>(rt: &R, node: &Node, reply: &Reply, said: &Said) {
     }
 }
 
-/// What a call is for those who pull from the node.
+/// What a call means for the nodes that pull from this one.
 #[derive(Clone, Copy)]
 enum Step {
     /// It may store a fact of the node.
@@ -215,7 +216,7 @@ enum Step {
     Other,
 }
 
-/// Notes that a call begins, where others pull from this process. A frame that is asked for here, to
+/// Records that a call begins, if others pull from this process. A frame that is asked for here, to
 /// count facts, goes to nobody.
 fn begin<R: Wait>(rt: &R, node: &Node, call: &Call, answers: bool) -> Step {
     if !node.site.is_apart() {
@@ -231,7 +232,8 @@ fn begin<R: Wait>(rt: &R, node: &Node, call: &Call, answers: bool) -> Step {
     }
 }
 
-/// Notes that it is over, with this reply. It gives the ticket of the fact that it stored; 0 for none.
+/// Records that the call is over, with this reply. Returns the ticket of the fact that it stored,
+/// or 0.
 fn end<R: Wait + Clock>(rt: &R, node: &Node, step: Step, reply: &Reply) -> u64 {
     match (step, reply) {
         (Step::Enters, _) => node.followers.end(rt, is_own_fact(reply)),
@@ -243,8 +245,8 @@ fn end<R: Wait + Clock>(rt: &R, node: &Node, step: Step, reply: &Reply) -> u64 {
     }
 }
 
-/// Has an answer wait for the fact that its call stored, or for all that it may show. A frame waits for
-/// nothing.
+/// Makes an answer wait for the fact that its call stored, or for everything that it may show. A
+/// frame waits for nothing.
 fn make<R: Wait>(rt: &R, node: &Node, promise: &Promise, step: Step, ticket: u64) {
     if matches!(step, Step::Asks(_)) {
         return;
@@ -256,7 +258,8 @@ fn make<R: Wait>(rt: &R, node: &Node, promise: &Promise, step: Step, ticket: u64
     }
 }
 
-/// Notes that it is over, and was refused so. Where the journal failed something may be stored.
+/// Records that the call is over, and was refused in this way. If the journal failed, something may
+/// be stored.
 fn give_up<R: Wait>(rt: &R, node: &Node, step: Step, refusal: &Refusal) {
     if matches!(step, Step::Enters) {
         let is_unknown = matches!(refusal, Refusal::JournalFailed);
@@ -264,7 +267,7 @@ fn give_up<R: Wait>(rt: &R, node: &Node, step: Step, refusal: &Refusal) {
     }
 }
 
-/// Notes why a call was refused.
+/// Records why a call was refused.
 fn tell_refused<R: Wait>(rt: &R, node: &Node, asked: Asked, refusal: &Refusal) {
     if matches!(refusal, Refusal::JournalFailed) {
         node.tally.note_failure();
@@ -275,7 +278,7 @@ fn tell_refused<R: Wait>(rt: &R, node: &Node, asked: Asked, refusal: &Refusal) {
 impl<'n, R: Wait + Clock, C: Clerk + Drop> Clerk for CountingClerk<'n, R, C> {
     ghost receipts = { λ s. C.receipts s.clerk };
 
-    // The clerk was called; or the call was refused, and the clerk not asked.
+    // Either the clerk was called, or the call was refused without asking the clerk.
     ghost called = { λ old new call now outcome. C.called old.clerk new.clerk call now outcome
         ⊎ ((new.clerk ≡ old.clerk) × (outcome ≡ Err Stopped)) };
 

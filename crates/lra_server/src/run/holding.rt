@@ -1,4 +1,4 @@
-// Which requests wait though they are whole.
+// Decides which requests wait although they are whole.
 
 use lra_copies::{Standing, Verdict};
 use lra_id::{Front, MAX_NODES, NodeId};
@@ -11,13 +11,14 @@ use std::str;
 use std::sync::Wait;
 use std::time::{Clock, Duration};
 
-/// From how many connections on that wait for a worker no pull waits among them.
+/// From how many connections that wait for a worker on no pull waits among them.
 const CROWD: u64 = 512;
 
-/// Holds pulls of other nodes: of one that waits, until this node has something new for it; and of one that
-/// told of more of its facts than it counts now, until these are stored, since who starts over an older
-/// journal is to hear of each number that it gave. Holds commands while a start waits for other nodes, a
-/// second at most. Answers wait until other nodes have what they show.
+/// Holds requests of other nodes and clients. A pull that waits is held until this node has
+/// something new for it. A pull of a node that sent more of its own facts than it counts now is
+/// held until these are stored, because a node that starts over an older journal is to learn of
+/// each number that it gave. Commands are held while a start waits for other nodes, for at most a
+/// second. Answers wait until other nodes have what they show.
 #[derive(Drop)]
 pub struct Holding<'n, R> {
     pub rt: &'n R,
@@ -25,7 +26,7 @@ pub struct Holding<'n, R> {
     pub addressee: &'n Addressee,
 }
 
-/// How many facts one has that pulls with this body, where that is to be heard: the other nodes are in
+/// Returns the front of a node that pulls with this body, if that matters: the other nodes are in
 /// processes of their own.
 pub fn front_in(node: &Node, body: &[u8]) -> Option<Front> {
     if !node.site.is_apart() || node.nodes == 0 || node.nodes > MAX_NODES {
@@ -35,7 +36,7 @@ pub fn front_in(node: &Node, body: &[u8]) -> Option<Front> {
 }
 
 impl<'n, R: Wait + Clock> Holding<'n, R> {
-    // Whether a query is of another node, and means this one.
+    // Whether a query comes from another node, and means this one.
     fn is_meant(&self, from: NodeId, query: &[u8]) -> bool {
         match str::from_utf8(query) {
             Ok(query) => from != self.node.me && self.addressee.is_meant(query),
@@ -43,7 +44,7 @@ impl<'n, R: Wait + Clock> Holding<'n, R> {
         }
     }
 
-    // What becomes of the pull of a node that has so many facts of each.
+    // Returns what happens to the pull of a node with this front.
     fn judge(&self, from: NodeId, asked: &Asked, front: &Front) -> Hold {
         if self.node.mailbox.is_owed(self.rt, from, front) {
             return Hold::Later;

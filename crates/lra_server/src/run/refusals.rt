@@ -5,7 +5,7 @@ ghost use Rattle.lra_server.specs.Ending.{met, reason_of};
 use lra_facts::Refusal;
 use lra_sockets::StopReason;
 
-/// That a call met this refusal, which ends a run.
+/// Returns the reason of a run that ends because a call met this refusal.
 pub fn stop_reason_of(refusal: Refusal) -> StopReason
     ensures { result ≡ reason_of refusal }
 {
@@ -17,7 +17,7 @@ pub fn stop_reason_of(refusal: Refusal) -> StopReason
     }
 }
 
-/// The refusal that a call met, if a run is over for one.
+/// Returns the refusal that a call met, if a run ended because of one.
 pub fn refusal_of(reason: StopReason) -> Option<Refusal>
     ensures { result ≡ met reason }
 {

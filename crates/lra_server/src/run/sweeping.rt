@@ -13,7 +13,7 @@ use std::alloc::Global;
 use std::sync::Wait;
 use std::time::Clock;
 
-/// Notes what a page shows.
+/// Records what a page shows.
 fn note<R: Wait + Clock>(rt: &R, node: &Node, reply: &Reply) {
     if let Reply::Surveyed(survey) = reply {
         for row in survey.rows() {
