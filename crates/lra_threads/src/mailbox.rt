@@ -342,7 +342,7 @@ impl Mailbox {
         self.held.lock(rt).asks.times_anew(other)
     }
 
-    /// Records that another node answered, and what it sent. `anew` is how often it had begun anew
+    /// Records that another node answered, and what it sent. `seen` is how often it had begun anew
     /// when it was asked for that. Returns whether that counts: what is from before the node began
     /// anew doesn't.
     pub(crate) fn note_heard<R: Wait>(
