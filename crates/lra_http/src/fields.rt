@@ -30,7 +30,9 @@ fn with_one<'b>(found: Found<'b>, text: &'b [u8]) -> Found<'b>
     }
 }
 
-fn sole<'b>(bytes: &'b [u8], headers: &[HeaderSpan], name: &[u8]) -> Found<'b>
+/// Searches the fields of a head for those of a name, in whichever case, and returns the value if one
+/// field alone has that name.
+pub fn sole<'b>(bytes: &'b [u8], headers: &[HeaderSpan], name: &[u8]) -> Found<'b>
     requires { All (IsHeaderWithin (length bytes.now)) headers.now }
     ensures { IsFound result (values name.now (map (header_bytes bytes.now) headers.now)) }
 {

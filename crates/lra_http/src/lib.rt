@@ -27,6 +27,7 @@ pub use bytes::{
 };
 pub use count::Count;
 pub use fault::Fault;
+pub use fields::{Found, sole};
 pub use head::{MAX_HEAD_BYTES, MAX_HEAD_LINES};
 pub use log::Log;
 pub use message::{Bytes, CallRequest, Field, Fields, Request, Response, Text};

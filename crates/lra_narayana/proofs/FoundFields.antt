@@ -1,13 +1,12 @@
 -- The values of the fields with a name.
-use Rattle.std.proofs.Common.{◌≡◌, ℕ, ◌+◌, ◌<◌, Bool, true, false, cond, List, [], ◌∷◌, ◌++◌, length, take, get_or, map, sym, ◌∙◌, ap, refl, subst, append-nil}
+use Rattle.std.proofs.Common.{◌≡◌, ℕ, ◌+◌, ◌<◌, Bool, true, false, cond, List, [], ◌∷◌, ◌++◌, length, take, get_or, map, sym, ◌∙◌, ap, refl, append-nil}
 use Rattle.std.proofs.lemmas.List.{take_more, map-append}
 use Rattle.std.proofs.lemmas.Slice.Eq.{bytes_eq-Decides}
 use Rattle.std.specs.Char.{to_ascii_lowercase}
 use Rattle.httparse.specs.Spans.{header_bytes, span_bytes}
 use Rattle.httparse.specs.declared.spans.HeaderSpan.{HeaderSpan}
 use Rattle.lra_http.specs.HeadFields.{values, is_named}
-use Rattle.lra_narayana.specs.Framings.{IsFound, last_value}
-use Rattle.lra_narayana.specs.declared.fields.Found.{Found}
+use Rattle.lra_narayana.specs.Framings.{last_value}
 
 -- one more field
 pub values_push : (name : List ℕ) (fields : List (List ℕ × List ℕ)) (field : List ℕ × List ℕ) (b : Bool) → is_named name field ≡ b
@@ -41,27 +40,6 @@ not_named name field h =
 
 abbrev pub no_span : HeaderSpan
 no_span = record { name = record { start = 0; end = 0 }; value = record { start = 0; end = 0 } }
-
--- a header with the name, and one with another
-pub found_hit : (old new : Found) (name bytes own text : List ℕ) (headers : List HeaderSpan) (i : ℕ) → i < length headers
-    → own ≡ span_bytes bytes (get_or headers i no_span).name → map to_ascii_lowercase own ≡ map to_ascii_lowercase name
-    → text ≡ span_bytes bytes (get_or headers i no_span).value
-    → ((texts : List (List ℕ)) → IsFound old texts → IsFound new (texts ++ text ∷ []))
-    → IsFound old (values name (map (header_bytes bytes) (take i headers)))
-    → IsFound new (values name (map (header_bytes bytes) (take (i + 1) headers)))
-found_hit old new name bytes own text headers i below is same value goes known =
-    let here = values_more name bytes headers i no_span true below
-    (named name (header_bytes bytes (get_or headers i no_span)) (ap (map to_ascii_lowercase) (sym is) ∙ same)) in
-    rw here (subst (λ (t : List ℕ). IsFound new (values name (map (header_bytes bytes) (take i headers)) ++ t ∷ [])) value (goes _ known))
-
-pub found_miss : (old : Found) (name bytes own : List ℕ) (headers : List HeaderSpan) (i : ℕ) → i < length headers
-    → own ≡ span_bytes bytes (get_or headers i no_span).name → ¬ (map to_ascii_lowercase own ≡ map to_ascii_lowercase name)
-    → IsFound old (values name (map (header_bytes bytes) (take i headers)))
-    → IsFound old (values name (map (header_bytes bytes) (take (i + 1) headers)))
-found_miss old name bytes own headers i below is other known =
-    let here = values_more name bytes headers i no_span false below
-    (not_named name (header_bytes bytes (get_or headers i no_span)) (λ e. other (ap (map to_ascii_lowercase) is ∙ e))) in
-    rw (here, append-nil) known
 
 last_push : (texts : List (List ℕ)) (text : List ℕ) → last_value (texts ++ text ∷ []) ≡ text
 last_push [] text = refl

@@ -7,17 +7,9 @@ use Rattle.httparse.specs.Grammar.{IsRequestHead, IsResponseHead, RequestHead, R
 use Rattle.httparse.specs.Spans.{name_and_value}
 use Rattle.lra_http.specs.HeadFields.{is_bare, values}
 use Rattle.lra_narayana.specs.Chunks.{IsChunked}
-use Rattle.lra_narayana.specs.declared.fields.Found.{Found}
-use Rattle.lra_narayana.specs.declared.fields.Found.TheVariants.{Absent, Sole, Several}
 use Rattle.lra_narayana.specs.declared.message.Fields.{Fields}
 use Rattle.lra_narayana.specs.declared.fields.Framing.{Framing}
 use Rattle.lra_narayana.specs.declared.fields.Framing.TheVariants.{Length, Chunks, End}
-
--- what the search for a field found, of all the values with its name
-abbrev pub IsFound : Found → List (List ℕ) → Type 0
-IsFound Absent found = found ≡ []
-IsFound (Sole text) found = found ≡ text.now ∷ []
-IsFound Several found = 2 ≤ length found
 
 -- the last one, and nothing where there is none
 abbrev pub last_value : List (List ℕ) → List ℕ

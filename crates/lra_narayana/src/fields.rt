@@ -1,13 +1,13 @@
 // The fields of a head.
 ghost use Rattle.std.specs.Prelude.{◌≡◌, ◌≤◌, List, ℕ, ◌∷◌, [], ◌++◌, IfOk, IfSome, IsTrue, All, length, map, slice_index};
 ghost use Rattle.lra_http.specs.Bodies.{max_body_bytes};
-ghost use Rattle.lra_http.specs.HeadFields.{values};
+ghost use Rattle.lra_http.specs.HeadFields.{IsFound, values};
 ghost use Rattle.httparse.specs.Spans.{IsHeaderWithin, header_bytes};
-ghost use Rattle.lra_narayana.specs.Framings.{IsFound, IsLength, SayFraming, last_value};
+ghost use Rattle.lra_narayana.specs.Framings.{IsLength, SayFraming, last_value};
 
 use crate::broken::Broken;
 use httparse::spans::HeaderSpan;
-use lra_http::MAX_BODY_BYTES;
+use lra_http::{Found, MAX_BODY_BYTES, sole};
 use std::alloc::Global;
 
 /// How a body ends.
@@ -17,39 +17,6 @@ pub enum Framing {
     Chunks,
     /// With the connection, so that a cut one can't be told from a whole one.
     End,
-}
-
-/// What the search for a field finds.
-#[derive(Clone, Copy)]
-enum Found<'a> {
-    Absent,
-    Sole(&'a [u8]),
-    Several,
-}
-
-/// What is found once one more is.
-fn with_one<'b>(found: Found<'b>, text: &'b [u8]) -> Found<'b>
-    ensures { (texts : List (List ℕ)) →
-        IsFound found.entry texts → IsFound result (texts ++ text.now ∷ []) }
-{
-    match found {
-        Found::Absent => Found::Sole(text),
-        _ => Found::Several,
-    }
-}
-
-/// What is found of a name, in whichever case.
-fn sole<'b>(bytes: &'b [u8], headers: &[HeaderSpan], name: &[u8]) -> Found<'b>
-    requires { All (IsHeaderWithin (length bytes.now)) headers.now }
-    ensures { IsFound result (values name.now (map (header_bytes bytes.now) headers.now)) }
-{
-    let mut found = Found::Absent;
-    for header in headers {
-        if header.name.of(bytes).eq_ignore_ascii_case(name) {
-            found = with_one(found, header.value.of(bytes));
-        }
-    }
-    found
 }
 
 /// Whether a text has no plus at its front, which `parse` would pass over.
