@@ -23,3 +23,4 @@ pub use serving::{
     ServeError, end, end_refused, serve_fault, serve_one, serve_or_explain, serve_request,
 };
 pub use table::{Endpoint, TableMethod, method_of};
+pub use text::refusal_body;

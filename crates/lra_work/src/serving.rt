@@ -4,7 +4,6 @@ ghost use Rattle.lra_http.specs.declared.fault.Fault.{Fault as TheFault};
 ghost use Rattle.lra_http.specs.declared.message.Request.{Request as TheRequest};
 ghost use Rattle.lra_api.specs.Serving.{Ends, Makes};
 ghost use Rattle.lra_api.specs.Streams.{IsReading};
-ghost use Rattle.lra_api.specs.Texts.{refusal_body as refused_body};
 ghost use Rattle.lra_work.specs.Addressees.{misdirected_answer};
 ghost use Rattle.lra_work.specs.Working.{ServesNamed, ServesRead, ServesRequest};
 
@@ -13,20 +12,12 @@ use crate::misdirected::is_misdirected;
 use crate::{Addressee, NodeName};
 use http::StatusCode;
 use lra_api::{
-    Answer, Body, Paths, ServeError, end, serve_fault, serve_or_explain, serve_request, with_body,
+    Answer, Body, Paths, ServeError, end, refusal_body, serve_fault, serve_or_explain,
+    serve_request, with_body,
 };
 use lra_book::Clerk;
 use lra_http::{MAX_BODY_BYTES, Request, Sink, Source, read_request};
 use std::alloc::{AllocError, Global};
-
-/// Makes the body that names a refusal.
-#[tactic(auto, unfolding(lra_api::specs::Texts::refusal_body))]
-fn refusal_body(alloc: Global, text: &str) -> Result<Vec<u8>, AllocError>
-    ensures { IfOk result (λ body. body.items ≡ refused_body text.now) }
-{
-    let body = format!(in alloc; "{{\"refused\":\"{text}\"}}")?;
-    Ok(body.into_bytes())
-}
 
 /// Makes the answer to a pull that is meant for another node.
 fn misdirected_answer<'a>(alloc: Global, node: &NodeName) -> Result<Answer<'a>, AllocError>
