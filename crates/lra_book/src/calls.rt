@@ -6,47 +6,9 @@ use crate::{Holding, Survey};
 use lra_callback::Duties;
 use lra_delta::Delta;
 use lra_facts::{Command, CommandReply, Refusal};
+use lra_http::Bytes;
 use lra_id::{LraId, LraStatus, MemberStatus};
 use lra_replica::Page;
-use std::marker::Model;
-
-/// The body of a pull: the bytes in which another node says what it has. It is no `Bytes` of
-/// `lra_http`, since what a book is asked is no part of a message.
-#[derive(Debug, Drop)]
-pub struct PullBody {
-    pub(crate) bytes: Vec<u8>,
-}
-
-impl Model for PullBody {
-    ghost use Rattle.std.specs.Prelude.{List, ℕ};
-
-    ghost Value = { List ℕ };
-
-    ghost view = { λ b. b.bytes.items };
-}
-
-impl PullBody {
-    /// These bytes.
-    pub fn new(bytes: Vec<u8>) -> PullBody
-        ensures { result ≡ bytes.items }
-    {
-        PullBody { bytes }
-    }
-
-    /// These bytes as a slice.
-    pub fn as_slice(&self) -> &[u8]
-        ensures { result.now ≡ self.now }
-    {
-        &self.bytes
-    }
-
-    /// These bytes as a vector.
-    pub fn into_vec(self) -> Vec<u8>
-        ensures { result.items ≡ self }
-    {
-        self.bytes
-    }
-}
 
 /// What a book is asked.
 #[derive(Debug, Drop)]
@@ -56,7 +18,7 @@ pub enum Call {
     /// Take what another node tells.
     Take(Delta),
     /// Tell another node what it lacks, which asks by these bytes.
-    Pull(PullBody),
+    Pull(Bytes),
     /// Show an LRA.
     Status(LraId),
     /// Show a participant.

@@ -18,7 +18,7 @@ mod sameness;
 mod trees;
 
 pub use book::{Book, MAX_ENTRIES, MAX_MOVES};
-pub use calls::{Call, Entry, PullBody, Receipt, Reply};
+pub use calls::{Call, Entry, Receipt, Reply};
 pub use clerk::{BookClerk, Clerk, DeskClerk};
 pub use crossing::{
     book_crosses, desk_is_shared, desk_pass_crosses, locked_book_is_shared, pass_crosses,

@@ -20,10 +20,11 @@ ghost use Rattle.lra_book.specs.Trees.{tree_shown_on};
 
 use crate::holdings::{hold, survey_beyond};
 use crate::trees::tree_shown;
-use crate::{Call, PullBody, Reply};
+use crate::{Call, Reply};
 use lra_callback::pick;
 use lra_delta::Delta;
 use lra_facts::{Command, CommandReply, Refusal};
+use lra_http::Bytes;
 use lra_id::{LraId, LraStatus, NodeId, Verdict};
 use lra_journal::Journal;
 use lra_peer::serve_pull;
@@ -92,7 +93,7 @@ fn take(alloc: Global, replica: &mut Replica, delta: Delta) -> Result<PreparedCa
 }
 
 /// What a node gives another that asks by these bytes.
-fn give(alloc: Global, replica: &Replica, body: &PullBody) -> Result<Reply, Refusal>
+fn give(alloc: Global, replica: &Replica, body: &Bytes) -> Result<Reply, Refusal>
     ensures reply { IfOk result (λ reply. reply
         ≡ pull_reply (view_of replica.now) (asked (length replica.now.front) body.now)) }
     ensures cause { IfErr result (λ refusal. refusal ≡ NoMemory) }

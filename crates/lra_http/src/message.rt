@@ -2,6 +2,7 @@
 ghost use Rattle.std.specs.Prelude.{◌≡◌, string_bytes};
 
 use http::{Method, StatusCode};
+use std::alloc::AllocError;
 use std::marker::Model;
 
 /// Bytes of a message.
@@ -38,6 +39,18 @@ impl Bytes {
         ensures { result.items ≡ self }
     {
         self.bytes
+    }
+}
+
+impl Clone for Bytes {
+    ghost use Rattle.std.specs.Prelude.{◌≡◌};
+
+    ghost is_clone = { λ x y. y ≡ x };
+
+    fn clone(&self) -> Result<Bytes, AllocError> {
+        Ok(Bytes {
+            bytes: self.bytes.clone()?,
+        })
     }
 }
 

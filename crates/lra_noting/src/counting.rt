@@ -3,7 +3,7 @@ ghost use Rattle.std.specs.Prelude.{◌≡◌, ◌≤◌, IfOk, replicate};
 ghost use Rattle.lra_id.specs.declared.TheConstants.{LAST_NUMBER, MAX_NODES};
 ghost use Rattle.lra_peer.specs.PullBodies.{pull_body};
 
-use lra_book::PullBody;
+use lra_http::Bytes;
 use lra_id::{Front, LAST_NUMBER, MAX_NODES};
 use lra_peer::pull_body;
 use std::alloc::{AllocError, Global};
@@ -19,10 +19,10 @@ fn front_of_all(nodes: u8) -> Front
 
 /// Makes the body of a pull by a node that has all facts that there can be of `nodes` nodes. So the
 /// answer only says how many facts there are. Errors: out of memory.
-pub fn body_of_all(alloc: Global, nodes: u8) -> Result<PullBody, AllocError>
+pub fn body_of_all(alloc: Global, nodes: u8) -> Result<Bytes, AllocError>
     requires { (1 ≤ nodes) × (nodes ≤ MAX_NODES) }
     ensures { IfOk result (λ body. body ≡ pull_body (replicate nodes LAST_NUMBER)) }
 {
     let bytes = pull_body(alloc, &front_of_all(nodes))?;
-    Ok(PullBody::new(bytes))
+    Ok(Bytes::new(bytes))
 }

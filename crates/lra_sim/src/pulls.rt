@@ -1,10 +1,10 @@
 // How nodes pull from one another. That a pull waits stands once more in lra_server/src/run/holding.rt.
 
 use crate::play::{Play, nowhere};
-use lra_book::{Call, PullBody, Reply};
+use lra_book::{Call, Reply};
 use lra_delta::{Delta, encode};
 use lra_heard::{Telling, ask_for};
-use lra_http::{OverRead, OverWrite};
+use lra_http::{Bytes, OverRead, OverWrite};
 use lra_id::{Front, MAX_NODES, NodeId};
 use lra_luck::{Halt, Pull, Stage};
 use lra_peer::{front_of_pull, pull_body};
@@ -126,7 +126,7 @@ impl<R: Runs> Play<R> {
         }
         let body = pull_body(self.alloc, &front)?;
         let told = front_told(self.count(), body.as_slice())?;
-        let reply = self.call(teller, SERVES, Call::Pull(PullBody::new(body)))?;
+        let reply = self.call(teller, SERVES, Call::Pull(Bytes::new(body)))?;
         let Some(Reply::Gave(delta)) = &reply else {
             return Ok(());
         };
