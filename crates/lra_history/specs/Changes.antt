@@ -1,4 +1,4 @@
--- What a patch changes in a view, and when that adds exactly one fact.
+-- The changes that a patch makes to a view, and when they add exactly one fact.
 use mathlib.Core.Bool.{not}
 use Rattle.std.specs.Prelude.{◌≡◌, ◌+◌, ◌-◌, ◌==◌, ℕ, true, Some, List, [], ◌∷◌, length, filter, slice_set, Option, None}
 use Rattle.lra_id.specs.Ids.{Id}
@@ -16,14 +16,14 @@ use Rattle.lra_facts.specs.declared.command.Command.{Command}
 use Rattle.lra_history.specs.Growth.{IsMore, begun_record, stamped}
 use Rattle.lra_history.specs.Replies.{AlreadyKnown, Accepted, judge, next_fact}
 
--- what is put into a view and taken out of it
+-- what is put into a view and removed from it, and the front and last purges afterwards
 pub record Change : Type 0 where
   pub records : List Record
   pub removed : List Id
   pub front : List ℕ
   pub purges : List ℕ
 
--- with a record in its place at its home
+-- the records of all homes with a record in its place at its home
 abbrev pub put_at_home : Record → List (List Record) → List (List Record)
 put_at_home r homes = slice_set homes (r.home - 1) (put_record r (records_at homes r.home))
 
@@ -31,7 +31,7 @@ abbrev pub put_each : List Record → List (List Record) → List (List Record)
 put_each [] homes = homes
 put_each (r ∷ records) homes = put_each records (put_at_home r homes)
 
--- without the record of l
+-- the records of all homes without the record of l
 abbrev pub remove_at_home : Id → List (List Record) → List (List Record)
 remove_at_home l homes = slice_set homes (l.home - 1) (filter (λ r. not (is_of l r)) (records_at homes l.home))
 
@@ -44,7 +44,7 @@ abbrev pub patched : Change → View → View
 patched change view =
     record { front = change.front; purges = change.purges; records = put_each change.records (remove_each change.removed view.records) }
 
--- the same, if there is one
+-- the view after a patch, if there is one
 abbrev pub with_patch : Option Change → View → View
 with_patch None view = view
 with_patch (Some change) view = patched change view
@@ -56,34 +56,35 @@ ids_of home ids = filter (λ l. l.home == home) ids
 abbrev pub records_of : ℕ → List Record → List Record
 records_of home records = filter (λ r. r.home == home) records
 
--- A patch of a view has only what changes, each once: at each home the records that it puts are in order, and the view has none
--- of them as it is. The LRAs that it removes are in order, the view has a record of each, and none of them is put
+-- A patch of a view has only what changes, each once. At each home the records that it puts are in
+-- order, and the view has none of them unchanged. The LRAs that it removes are in order, the view
+-- has a record of each, and none of them is put
 abbrev pub HoldsOnlyChanges : View → Change → Type 0
 HoldsOnlyChanges view change =
     (home : ℕ) → AreOnlyChanges home (records_at view.records home) (ids_of home change.removed) (records_of home change.records)
 
--- a front with one more of a node
+-- a front that counts one more fact of a node
 abbrev pub raised : List ℕ → ℕ → List ℕ
 raised v node = stamped node (count v node + 1) v
 
--- what a fact of a node changes where it changes one record
+-- what a node's fact changes if it changes one record
 abbrev pub one_change : View → ℕ → Record → Change
 one_change view me next =
     record { records = next ∷ []; removed = []; front = raised view.front me; purges = view.purges }
 
--- and where it changes two: the first is put in its place first
+-- what it changes if it changes two records, of which the first is put in its place first
 abbrev pub two_changes : View → ℕ → (first second : Record) → Change
 two_changes view me first second =
     record { records = first ∷ second ∷ []; removed = []; front = raised view.front me; purges = view.purges }
 
--- Of the LRAs of the root's home that the view has a record of, those under the root are in the list, and no others. All ids
--- in it are of that home
+-- Among the LRAs of the root's home of which the view has a record, the list has exactly those
+-- under the root. All ids in it are of that home
 pub record IsRemoval (S : List Fact) (view : View) (root : Id) (removed : List Id) : Type 0 where
   pub homes : (l : Id) → In l removed → l.home ≡ root.home
   pub only : (l : Id) (r : Record) → l.home ≡ root.home → record_at view l ≡ Some r → In l removed → is_under S root l ≡ true
   pub all : (l : Id) (r : Record) → l.home ≡ root.home → record_at view l ≡ Some r → is_under S root l ≡ true → In l removed
 
--- what a purge of a node changes where it removes these: it is also the node's last purge
+-- what a node's purge changes if it removes these LRAs; it also becomes the node's last purge
 abbrev pub purge_change : View → ℕ → List Id → Change
 purge_change view me removed =
     record { records = []; removed = removed; front = raised view.front me; purges = slice_set view.purges (me - 1) (count view.front me + 1) }
@@ -92,12 +93,12 @@ purge_change view me removed =
 abbrev pub fresh_record : List ℕ → ℕ → Option Place → ℕ → Record
 fresh_record v me parent deadline = begun_record (length v) me (count v me + 1) parent deadline
 
--- with the number of a node's next fact
+-- the record stamped with this number of a node
 abbrev pub with_stamp : ℕ → ℕ → Record → Record
 with_stamp node num r = record r { stamps = stamped node num r.stamps }
 
--- A patch where the command is accepted: with it the view stands for the set with exactly the command's fact. None where it
--- was known.
+-- What a patch does. If the command is accepted, the patched view stands for the set with exactly
+-- the command's fact added. There is no patch if the command was already known.
 abbrev pub AddsFact : List Fact → View → ℕ → Command → Option Change → Type 0
 AddsFact S view me c None = judge S view.front me c ≡ AlreadyKnown
 AddsFact S view me c (Some change) =

@@ -1,4 +1,4 @@
--- One more fact of a node: what it makes of a set, and of the record of an LRA that it names.
+-- One more fact of a node: how it changes a set, and the record of an LRA that it names.
 use Rattle.std.specs.Prelude.{◌≡◌, ◌≤◌, ◌<◌, ◌+◌, ◌-◌, ◌&&◌, ◌==◌, ℕ, zero, suc, Bool, true, false, Option, Some, None, List, [], ◌∷◌, ◌++◌, replicate, slice_set}
 use Rattle.lra_id.specs.Ids.{Id, same_id}
 use Rattle.lra_id.specs.States.{greater}
@@ -21,7 +21,7 @@ use Rattle.lra_forest.specs.declared.record.Record.{Record}
 use Rattle.lra_forest.specs.Records.{is_named}
 use Rattle.lra_forest.specs.Standing.{IsWhole, IsSeated}
 
--- T is S with the fact f, anywhere in the list: the newest of its node
+-- T is S with the fact f, anywhere in the list, as the newest of its node
 pub record IsMore (f : Fact) (S T : List Fact) : Type 0 where
   pub before : List Fact
   pub after : List Fact
@@ -30,7 +30,7 @@ pub record IsMore (f : Fact) (S T : List Fact) : Type 0 where
   pub some : 1 ≤ f.origin
   pub newest : (g : Fact) → In g S → g.origin ≡ f.origin → g.num < f.num
 
--- it says something of the participant m of l
+-- the body says something of the participant m of l
 abbrev pub names_member : Id → ℕ → Body → Bool
 names_member l m (Leave id member) = same_id id l && (member == m)
 names_member l m (Report id member act outcome) = same_id id l && (member == m)
@@ -38,7 +38,7 @@ names_member l m (Forgot id member) = same_id id l && (member == m)
 names_member l m (Told id member) = same_id id l && (member == m)
 names_member l m _ = false
 
--- What the sets keep that nodes of a lawful history hold: records are made of such sets
+-- The invariants of the sets that nodes of a lawful history hold. Records are made of such sets
 pub record IsSettled (S : List Fact) : Type 0 where
   pub whole : IsWhole S
   pub seated : IsSeated S
@@ -51,7 +51,7 @@ pub record IsSettled (S : List Fact) : Type 0 where
 
 -- The record of an LRA after a fact that names it
 
--- one that has just joined
+-- a participant that has just joined
 abbrev pub joined : Links → Member
 joined links = Participant (record { links = links; completed = None; compensated = None; forgotten = false; told = false })
 
@@ -77,7 +77,7 @@ leaving (Participant p) = Left
 leaving (Nested num) = Nested num
 leaving Left = Left
 
--- with the member at this place, from 0, changed
+-- the members with the one at this place changed, counted from 0
 abbrev pub member_changed : (Member → Member) → ℕ → List Member → List Member
 member_changed g i [] = []
 member_changed g zero (x ∷ xs) = g x ∷ xs
@@ -97,7 +97,7 @@ abbrev pub decision_after : Body → Option Verdict → Option Verdict
 decision_after (Decide id verdict) d = Some verdict
 decision_after _ d = d
 
--- with the number of a node's newest fact
+-- the stamps with the number of a node's newest fact
 abbrev pub stamped : ℕ → ℕ → List ℕ → List ℕ
 stamped node num stamps = slice_set stamps (node - 1) num
 
@@ -115,12 +115,12 @@ record_after f r =
 
 -- The record of an LRA that a fact begins
 
--- where it is nested: under the next member number of its parent
+-- the place where it is nested, under the next member number of its parent
 abbrev pub next_place : List Fact → Option Id → Option Place
 next_place S None = None
 next_place S (Some p) = Some (record { number = p.num; slot = numbers_given S p + 1 })
 
--- as the fact of its home with this number
+-- the record of an LRA that its home begins with the fact of this number
 abbrev pub begun_record : (nodes home num : ℕ) → Option Place → ℕ → Record
 begun_record nodes home num parent deadline =
     record {
@@ -133,6 +133,6 @@ begun_record nodes home num parent deadline =
       members = [];
     }
 
--- in a set
+-- the new record in a set
 abbrev pub new_record : ℕ → List Fact → Fact → Option Id → ℕ → Record
 new_record nodes S f parent deadline = begun_record nodes f.origin f.num (next_place S parent) deadline

@@ -1,4 +1,4 @@
--- The merge of two views, and what a view becomes when what another node tells is taken.
+-- The merge of two views, and the view that results when what another node tells is taken.
 use Rattle.std.specs.Prelude.{◌≡◌, ◌≤◌, ◌+◌, ◌-◌, ◌&&◌, ℕ, Option, Some, None, List, [], ◌∷◌, ◌++◌, find, length, map, slice_get}
 use Rattle.std.specs.Option.{option_map_or}
 use Rattle.lra_id.specs.Ids.{Id, is_fact_number}
@@ -19,7 +19,8 @@ use Rattle.lra_history.specs.Views.{StandsFor, View, record_at, records_at}
 abbrev pub merged_of : View → View → Id → Option Record
 merged_of a b l = absorbed (is_covered a.front l) (is_fact_number l.num && is_covered b.front l) (record_at a l) (record_at b l)
 
--- c is made of a and b, which count the same nodes: the greater counts and purges, and of each LRA what is absorbed
+-- c is the merge of a and b, which count the same nodes: it has the greater counts and purges, and
+-- of each LRA what is absorbed
 pub record IsMerged (a b c : View) : Type 0 where
   pub nodes : length a.front ≡ length b.front
   pub front : c.front ≡ join_fronts a.front b.front
@@ -28,12 +29,12 @@ pub record IsMerged (a b c : View) : Type 0 where
   pub order : (home : ℕ) → 1 ≤ home → home ≤ length c.front → AreOf home (records_at c.records home)
   pub records : (l : Id) → 1 ≤ l.home → l.home ≤ length c.front → record_at c l ≡ merged_of a b l
 
--- with the record, if there is one, in its place
+-- the records with this one, if there is one, in its place
 abbrev pub put_some : Option Record → List Record → List Record
 put_some None rs = rs
 put_some (Some r) rs = put_record r rs
 
--- what is absorbed of the LRAs of a list of records, in order
+-- what is absorbed of the LRAs in a list of records, in order
 abbrev pub all_merged : View → View → List Record → List Record
 all_merged a b [] = []
 all_merged a b (r ∷ rs) = put_some (merged_of a b (id_of r)) (all_merged a b rs)
@@ -54,7 +55,7 @@ abbrev pub AreToldFrom : ℕ → List Told → Type 0
 AreToldFrom k [] = Unit {0}
 AreToldFrom k (told ∷ homes) = (told.records.home ≡ k) × AreToldFrom (k + 1) homes
 
--- its front, its last purges, and what it tells of each home
+-- a node's front, its last purges, and what it tells of each home
 pub record Telling : Type 0 where
   pub front : List ℕ
   pub purges : List ℕ
@@ -70,17 +71,18 @@ pub record IsTelling (telling : Telling) : Type 0 where
 abbrev pub told_records : Telling → ℕ → List Record
 told_records telling home = option_map_or (λ (told : Told). told.records.records) (slice_get telling.homes (home - 1)) []
 
--- the numbers of all LRAs of a home that the other holds, where it tells them
+-- the numbers of all LRAs of a home that the other node holds, if it tells them
 abbrev pub told_held : Telling → ℕ → Option (List ℕ)
 told_held telling home = option_map_or (λ (told : Told). held_numbers told.held) (slice_get telling.homes (home - 1)) None
 
--- what is absorbed of an LRA, of a view and what another node tells
+-- what is absorbed of an LRA, for a view and what another node tells
 abbrev pub absorbed_of : View → Telling → Id → Option Record
 absorbed_of a telling l =
     absorbed (is_covered a.front l) (is_gone (count telling.front l.home) (told_held telling l.home) l.num)
     (record_at a l) (find (is_of l) (told_records telling l.home))
 
--- c is a with what is told, by a node that counts the same nodes: the greater counts and purges, and of each LRA what is absorbed
+-- c is the view a once what is told is taken, from a node that counts the same nodes: it has the
+-- greater counts and purges, and of each LRA what is absorbed
 pub record IsAbsorbed (a : View) (telling : Telling) (c : View) : Type 0 where
   pub nodes : length a.front ≡ length telling.front
   pub front : c.front ≡ join_fronts a.front telling.front
@@ -89,8 +91,8 @@ pub record IsAbsorbed (a : View) (telling : Telling) (c : View) : Type 0 where
   pub order : (home : ℕ) → 1 ≤ home → home ≤ length c.front → AreOf home (records_at c.records home)
   pub records : (l : Id) → 1 ≤ l.home → l.home ≤ length c.front → record_at c l ≡ absorbed_of a telling l
 
--- What is news to a is told of b: its front and purges, of each LRA what b has of it, unless that changes nothing in a, and which
--- LRAs it holds. Its homes' records are in order
+-- It tells what b has that is news to a: b's front and purges, which LRAs b holds, and of each LRA
+-- what b has, unless that changes nothing in a. Its homes' records are in order
 pub record TellsNews (a : View) (telling : Telling) (b : View) : Type 0 where
   pub front : telling.front ≡ b.front
   pub purges : telling.purges ≡ b.purges

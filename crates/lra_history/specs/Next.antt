@@ -1,4 +1,4 @@
--- What a node replies to a command and holds after it, by its view alone.
+-- A node's reply to a command and its view afterwards, by its view alone.
 use Rattle.std.specs.Prelude.{◌+◌, ℕ, Some, None, [], ◌∷◌, Result, Ok, Err, Option}
 use Rattle.std.specs.Option.{option_map_or}
 use Rattle.lra_id.specs.Ids.{Id}
@@ -21,7 +21,7 @@ use Rattle.lra_history.specs.Views.{View, record_at, records_at}
 
 -- Commands
 
--- the fact that is entered for a command
+-- the fact that a node enters for a command
 abbrev pub next_fact_on : View → ℕ → Command → Fact
 next_fact_on view me c = fact_by (by_view view) view.front me c
 
@@ -29,17 +29,17 @@ next_fact_on view me c = fact_by (by_view view) view.front me c
 abbrev pub no_change : View → Change
 no_change view = record { records = []; removed = []; front = view.front; purges = view.purges }
 
--- the record of l is changed as the fact says
+-- the record of l changes as the fact says
 abbrev pub change_record : View → ℕ → Command → Id → Change
 change_record view me c l = option_map_or (λ (r : Record). one_change view me (record_after (next_fact_on view me c) r)) (record_at view l) (no_change view)
 
--- an LRA is begun in p, under its next member number
+-- an LRA is begun in p, with the next member number of p
 abbrev pub change_nested : View → ℕ → Command → Id → ℕ → Change
 change_nested view me c p deadline =
     option_map_or (λ (r : Record). two_changes view me (record_after (next_fact_on view me c) r)
     (fresh_record view.front me (Some (record { number = p.num; slot = (by_view view).numbers p + 1 })) deadline)) (record_at view p) (no_change view)
 
--- what the fact of a command changes
+-- what a command's fact changes
 abbrev pub change_on : View → ℕ → Command → Change
 change_on view me (Begin None deadline) = one_change view me (fresh_record view.front me None deadline)
 change_on view me (Begin (Some p) deadline) = change_nested view me (Begin (Some p) deadline) p deadline
@@ -54,7 +54,7 @@ change_on view me (Purge root) = purge_change view me (ids_below (at_home view r
 abbrev pub changed : View → ℕ → Command → View
 changed view me c = patched (change_on view me c) view
 
--- it is refused, known already, or accepted
+-- a command is refused, already known, or accepted
 abbrev pub judge_on : View → ℕ → Command → Judgement
 judge_on view me c = judge_by (by_view view) view.front me c
 
@@ -65,7 +65,7 @@ accepted_on view me c = accepted_by (by_view view) (by_view (changed view me c))
 abbrev pub reply_on : View → ℕ → Command → CommandReply
 reply_on view me c = reply_by (judge_on view me c) (accepted_on view me c)
 
--- only a command that is accepted changes the view
+-- only an accepted command changes the view
 abbrev pub view_by : Judgement → (before after : View) → View
 view_by (Denied r) before after = before
 view_by AlreadyKnown before after = before
@@ -76,16 +76,16 @@ next_view view me c = view_by (judge_on view me c) view (changed view me c)
 
 -- Questions
 
--- what is shown of an LRA, or the refusal
+-- what an LRA shows, or the refusal
 abbrev pub shown_on : View → Id → Result LraStatus Refusal
 shown_on view l = option_map_or (λ r. Err r) (first (unknown view.front l ∷ gone_by (by_view view) l ∷ [])) (Ok ((by_view view).shows l))
 
--- what is shown of a participant, or the refusal
+-- what a participant shows, or the refusal
 abbrev pub member_shown_on : View → Id → ℕ → Result MemberStatus Refusal
 member_shown_on view l m =
     option_map_or (λ r. Err r) (first (unknown view.front l ∷ gone_by (by_view view) l ∷ []))
     (option_map_or (λ s. Ok s) ((by_view view).member l m) (Err UnknownMember))
 
--- the overdue LRA of a home with the least number, if there is one: what expires
+-- the LRA that expires: the overdue LRA of a home with the least number, if there is one
 abbrev pub overdue_on : View → ℕ → ℕ → Option Id
 overdue_on view me now = first_overdue me (at_home view me) now (records_at view.records me)

@@ -6,18 +6,18 @@ use Rattle.lra_history.specs.Histories.{Entry, History, IsClosed, IsLawful, entr
 use Rattle.lra_history.specs.Replies.{body_for}
 use Rattle.lra_history.specs.Views.{View, StandsFor}
 
--- the front is closed in the history, and counts all that the node entered
+-- the front is closed in the history, and counts everything that the node entered
 pub record IsCurrent (h : History) (node : ℕ) (v : List ℕ) : Type 0 where
   pub some : 1 ≤ node
   pub there : node ≤ length h
   pub closed : IsClosed h v
   pub own : count v node ≡ length (entries_of h node)
 
--- what a node enters for a command, where it holds the set of the front
+-- what a node that holds the set of the front enters for a command
 abbrev pub entry_for : History → List ℕ → Command → Entry
 entry_for h v c = record { body = body_for (facts h v) c; front = v }
 
--- the view is that of a node in a lawful history: it stands for the set of a front that is current
+-- the view is that of a node in a lawful history: it stands for the set of a current front
 pub record IsViewIn (h : History) (node : ℕ) (v : List ℕ) (view : View) : Type 0 where
   pub lawful : IsLawful h
   pub current : IsCurrent h node v

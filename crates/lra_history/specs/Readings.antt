@@ -1,4 +1,4 @@
--- What a view tells of LRAs: a reading by its records.
+-- A reading by the records of a view: what a view says of LRAs.
 use Rattle.std.specs.Prelude.{ℕ, Option, is_some, length}
 use Rattle.lra_forest.specs.declared.record.Record.{Record}
 use Rattle.lra_forest.specs.Said.{depth_at, is_demanded_at, is_ended_at, is_heard_at, is_owed_at, is_root_at, is_forgot_at, is_to_hear_at, is_told_at, least_owed_of, least_unheard_of, member_shown_at, members_at, participant_of, shown_at, want_at}
@@ -6,7 +6,7 @@ use Rattle.lra_forest.specs.Shape.{found_at}
 use Rattle.lra_history.specs.Replies.{Reading}
 use Rattle.lra_history.specs.Views.{View, record_at, records_at}
 
--- the record of the LRA of a home with a number
+-- the record of a home's LRA with this number
 abbrev pub at_home : View → ℕ → ℕ → Option Record
 at_home view home = found_at home (records_at view.records home)
 

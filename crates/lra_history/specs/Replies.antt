@@ -1,5 +1,5 @@
--- What a node replies to a command, over the set of facts that it holds and the front that counts them: the first refusal,
--- that it is known already, or the reply to the fact that is entered.
+-- A node's reply to a command, over the set of facts that it holds and the front that counts them:
+-- the first refusal, that the command is already known, or the reply to the fact that is entered.
 use Rattle.std.specs.Prelude.{◌+◌, ◌||◌, ℕ, Bool, false, Option, Some, None, List, [], ◌∷◌, is_none, nat_lt, ◌≡◌, ◌++◌, true, Result, Ok, Err}
 use Rattle.std.specs.Option.{option_map_or}
 use Rattle.lra_id.specs.Ids.{Id}
@@ -29,9 +29,9 @@ use Rattle.lra_facts.specs.declared.command.CommandReply.TheVariants.{Began, Joi
 
 -- Readings
 
--- what is told of LRAs and their participants
--- (one definition over two readings, by a set or by a view, keeps one order of refusals: code meets
--- it over the view with hardly an answer, and one law ties the two)
+-- what is known of LRAs and their participants (there is one definition over two readings, by a set
+-- or by a view, which keeps one order of refusals: code meets it over the view almost without an
+-- answer, and one law ties the two)
 pub record Reading : Type 0 where
   pub held : Id → Bool
   pub want : Id → Option Verdict
@@ -52,7 +52,7 @@ pub record Reading : Type 0 where
   pub told : Id → ℕ → Bool
   pub least_untold : Id → Option Due
 
--- what a set of facts tells
+-- what a set of facts says
 abbrev pub by_facts : List Fact → Reading
 by_facts S =
     record {
@@ -78,7 +78,7 @@ by_facts S =
 
 -- Refusals
 
--- it is not held
+-- the LRA is not held
 abbrev pub gone_by : Reading → Id → Option Refusal
 gone_by t l = unless (t.held l) NotHeld
 
@@ -86,19 +86,19 @@ gone_by t l = unless (t.held l) NotHeld
 abbrev pub stranger_by : Reading → Id → ℕ → Option Refusal
 stranger_by t l m = unless (t.participant l m) UnknownMember
 
--- it wants something already
+-- the LRA already wants something
 abbrev pub inactive_by : Reading → Id → Option Refusal
 inactive_by t l = unless (is_none (t.want l)) (NotActive (t.shows l))
 
--- what it wants does not demand the act of the participant
+-- what the LRA wants does not demand this act of the participant
 abbrev pub unasked_by : Reading → Id → ℕ → Act → Option Refusal
 unasked_by t l m act = unless (t.demanded l m act) (NotDue (t.shows l))
 
--- it gave its last member number
+-- the LRA has given its last member number
 abbrev pub full_by : Reading → Id → Option Refusal
 full_by t l = unless (nat_lt (t.numbers l) MAX_MEMBERS) MembersFull
 
--- nothing may be nested in it, as deep as it is
+-- the LRA is so deep that nothing may be nested in it
 abbrev pub deep_by : Reading → Id → Option Refusal
 deep_by t l = unless (nat_lt (t.depth l) MAX_DEPTH) DepthFull
 
@@ -106,31 +106,33 @@ deep_by t l = unless (nat_lt (t.depth l) MAX_DEPTH) DepthFull
 abbrev pub crowded_by : Reading → ℕ → Option Refusal
 crowded_by t node = unless (nat_lt (t.held_at node) MAX_HELD) LrasFull
 
--- it is not to be told to forget, and was not told
+-- the participant is not to be told to forget, and was not told
 abbrev pub unowed_by : Reading → Id → ℕ → Option Refusal
 unowed_by t l m = unless (t.owed l m || t.forgot l m) (NotDue (t.shows l))
 
--- it is not to be told that its LRA has ended, and was not told
+-- the participant is not to be told that its LRA has ended, and was not told
 abbrev pub early_by : Reading → Id → ℕ → Option Refusal
 early_by t l m = unless (t.to_hear l m || t.told l m) (NotDue (t.shows l))
 
--- it is nested in another
+-- the LRA is nested in another
 abbrev pub nested_by : Reading → Id → Option Refusal
 nested_by t l = unless (t.root l) NotRoot
 
--- it is not ended
+-- the LRA is not ended
 abbrev pub running_by : Reading → Id → Option Refusal
 running_by t l = unless (t.ended l) (NotEnded (t.shows l))
 
--- a participant under it is still to be told to forget: the least of these is named
+-- a participant under the LRA must still be told to forget; the least of these is named
 abbrev pub unforgotten_by : Reading → Id → Option Refusal
 unforgotten_by t l = option_map_or (λ due. Some (StillToForget due.lra due.member)) (t.least_owed l) None
 
--- a participant under it has a link for the end of its LRA, and was not told of it: the least of these is named
+-- a participant under the LRA has a link for the end of its LRA, and was not told of the end; the
+-- least of these is named
 abbrev pub untold_by : Reading → Id → Option Refusal
 untold_by t l = option_map_or (λ due. Some (StillToTell due.lra due.member)) (t.least_untold l) None
 
--- the refusals that a command may meet at a node, in their order, all but the want of numbers
+-- the refusals that a command may meet at a node, in their order, except for the one of spent
+-- numbers
 abbrev pub refusal_by : Reading → List ℕ → ℕ → Command → Option Refusal
 refusal_by t v node (BeginAsked None deadline) = first (crowded_by t node ∷ [])
 refusal_by t v node (BeginAsked (Some p) deadline) =
@@ -144,7 +146,7 @@ refusal_by t v node (ToldAsked l m) = first (unknown v l ∷ gone_by t l ∷ str
 refusal_by t v node (PurgeAsked l) =
     first (unknown v l ∷ gone_by t l ∷ away node l ∷ nested_by t l ∷ running_by t l ∷ unforgotten_by t l ∷ untold_by t l ∷ [])
 
--- it brings nothing new
+-- the command brings nothing new
 abbrev pub is_known_by : Reading → Command → Bool
 is_known_by t (ReportAsked l m act outcome) = t.heard l m act outcome
 is_known_by t (ForgotAsked l m) = t.forgot l m
@@ -153,7 +155,7 @@ is_known_by t _ = false
 
 -- The fact
 
--- what is entered for a command: a participant joins under the next member number
+-- the body that is entered for a command, where a participant joins with the next member number
 abbrev pub body_by : Reading → Command → Body
 body_by t (BeginAsked parent deadline) = Begin parent deadline
 body_by t (JoinAsked l links) = Join l (t.numbers l + 1) links
@@ -164,11 +166,11 @@ body_by t (ForgotAsked l m) = Forgot l m
 body_by t (ToldAsked l m) = Told l m
 body_by t (PurgeAsked l) = Purge l
 
--- as the node's next fact
+-- that body as the node's next fact
 abbrev pub fact_by : Reading → List ℕ → ℕ → Command → Fact
 fact_by t v node c = record { origin = node; num = count v node + 1; body = body_by t c }
 
--- the reply to a command that is entered, by what is told before and with the fact
+-- the reply to a command that is entered, by the readings before its fact and with it
 abbrev pub accepted_by : (before after : Reading) → List ℕ → ℕ → Command → CommandReply
 accepted_by t u v node (BeginAsked parent deadline) =
     Began (begun_by (fact_by t v node (BeginAsked parent deadline))) (option_map_or (λ p. t.numbers p + 1) parent 0)
@@ -201,13 +203,14 @@ entered S v node c = S ++ next_fact S v node c ∷ []
 abbrev pub accepted : List Fact → List ℕ → ℕ → Command → CommandReply
 accepted S v node c = accepted_by (by_facts S) (by_facts (entered S v node c)) v node c
 
--- a command is refused, it is known already, or it is accepted
+-- a command is refused, already known, or accepted
 pub data Judgement : Type 0 where
   Denied : Refusal → Judgement
   AlreadyKnown : Judgement
   Accepted : Judgement
 
--- by the first refusal, whether it is known, and the want of numbers, in this order
+-- decided by the first refusal, by whether the command is known, and by whether numbers are left,
+-- in this order
 abbrev pub judged : Option Refusal → Bool → Option Refusal → Judgement
 judged (Some r) known limit = Denied r
 judged None true limit = AlreadyKnown
@@ -225,11 +228,11 @@ reply_by (Denied r) reply = Refused r
 reply_by AlreadyKnown reply = Known
 reply_by Accepted reply = reply
 
--- the reply of a command at a node
+-- a node's reply to a command
 abbrev pub reply_of : List Fact → List ℕ → ℕ → Command → CommandReply
 reply_of S v node c = reply_by (judge S v node c) (accepted S v node c)
 
--- only a command that is accepted enters something
+-- only an accepted command enters something
 abbrev pub after_by : Judgement → (before with_it : List Fact) → List Fact
 after_by (Denied r) before with_it = before
 after_by AlreadyKnown before with_it = before
@@ -240,11 +243,11 @@ after S v node c = after_by (judge S v node c) S (entered S v node c)
 
 -- Questions
 
--- what is shown of an LRA, or the refusal
+-- what an LRA shows, or the refusal
 abbrev pub shown_of : List Fact → List ℕ → Id → Result LraStatus Refusal
 shown_of S v l = option_map_or (λ r. Err r) (first (unknown v l ∷ gone_by (by_facts S) l ∷ [])) (Ok (shows_now S l))
 
--- what is shown of a participant, or the refusal
+-- what a participant shows, or the refusal
 abbrev pub member_shown : List Fact → List ℕ → Id → ℕ → Result MemberStatus Refusal
 member_shown S v l m =
     option_map_or (λ r. Err r) (first (unknown v l ∷ gone_by (by_facts S) l ∷ []))
@@ -252,7 +255,7 @@ member_shown S v l m =
 
 -- Lawful bodies
 
--- the command that a body answers
+-- the command to which a body belongs
 abbrev pub command_of : Body → Command
 command_of (Begin parent deadline) = BeginAsked parent deadline
 command_of (Join l m links) = JoinAsked l links
@@ -263,7 +266,7 @@ command_of (Forgot l m) = ForgotAsked l m
 command_of (Told l m) = ToldAsked l m
 command_of (Purge l) = PurgeAsked l
 
--- it is what the node would enter
+-- the body is what the node would enter
 pub record IsLawfulBody (S : List Fact) (v : List ℕ) (node : ℕ) (body : Body) : Type 0 where
   pub accepted : judge S v node (command_of body) ≡ Accepted
   pub made : body_for S (command_of body) ≡ body

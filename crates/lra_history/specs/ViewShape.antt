@@ -1,4 +1,4 @@
--- The shape of a view: what the records of a lawful history keep, whatever they say.
+-- The shape of a view: what the records of a lawful history satisfy, whatever they say.
 use Rattle.std.specs.Prelude.{◌≤◌, ℕ}
 use Rattle.lra_id.specs.Fronts.{IsBelow}
 use Rattle.lra_forest.specs.Shape.{AreInShape}

@@ -1,4 +1,4 @@
--- What a node has of its facts as records, and when that stands for a set.
+-- A view: what a node keeps of its facts as records, and when it stands for a set.
 use Rattle.std.specs.Prelude.{◌≡◌, ◌≤◌, ◌-◌, ◌&&◌, ◌==◌, ℕ, Bool, true, false, Option, List, [], length, map, find, get_or, if◌then◌else◌, replicate}
 use Rattle.lra_id.specs.Ids.{Id}
 use Rattle.lra_id.specs.Fronts.{count}
@@ -34,11 +34,11 @@ abbrev pub is_purge_fact : Body → Bool
 is_purge_fact (Purge root) = true
 is_purge_fact _ = false
 
--- the number of a node's last purge, 0 for none
+-- the number of a node's last purge, 0 if there is none
 abbrev pub purge_number : List Fact → ℕ → ℕ
 purge_number S node = most (λ f. if (f.origin == node) && is_purge_fact f.body then f.num else 0) S
 
--- the set has just the facts that the front counts
+-- the set has exactly the facts that the front counts
 pub record IsCounted (S : List Fact) (front : List ℕ) : Type 0 where
   pub some : (f : Fact) → In f S → (1 ≤ f.origin) × (1 ≤ f.num)
   pub counted : (f : Fact) → In f S → f.num ≤ count front f.origin
@@ -60,6 +60,6 @@ pub record StandsFor (S : List Fact) (view : View) : Type 0 where
 abbrev pub empty_view : ℕ → View
 empty_view nodes = record { front = replicate nodes 0; purges = replicate nodes 0; records = replicate nodes [] }
 
--- this holds of each settled set that the view stands for
+-- P holds for each settled set that the view stands for
 abbrev pub OfItsSet : View → (List Fact → Type 0) → Type 0
 OfItsSet view P = (S : List Fact) → IsSettled S → StandsFor S view → P S

@@ -1,4 +1,4 @@
-// Laws of histories and views: each function does nothing, and its contract is the law.
+// Laws of histories and views. Each function does nothing, and its contract is the law.
 pub mod merging;
 
 ghost use Rattle.std.specs.Prelude.{◌≡◌, ◌≤◌, ◌+◌, ◌&&◌, ℕ, List, [], Some, true, length, replicate};
@@ -20,7 +20,8 @@ ghost use Rattle.lra_history.specs.Replies.{Accepted, after, reply_of};
 pub mod rising;
 pub mod shape;
 
-/// What a closed front of a lawful history counts is settled, and the front counts just that.
+/// The set that a closed front of a lawful history counts is settled, and the front counts exactly
+/// its facts.
 #[tactic(auto, using(crate::proofs::ClosedSets::closed_settled, crate::proofs::ClosedSets::closed_counted))]
 pub fn closed_sets_are_settled()
     ensures settled { (h : History) (v : List ℕ) →
@@ -28,8 +29,9 @@ pub fn closed_sets_are_settled()
     ensures counted { (h : History) (v : List ℕ) → IsClosed h v → IsCounted (facts h v) v }
 {}
 
-/// What a node enters is one more fact of the set of its front, and of no set of a front that was
-/// closed before: such a front stays closed, and that of another node stays current.
+/// An entry of a node is one more fact of the set of that node's front. It adds nothing to the set
+/// of any front that was closed before. Such a front stays closed, and the front of another node
+/// stays current.
 pub fn an_entry_is_one_more_fact()
     ensures fact { (h : History) (node : ℕ) (v : List ℕ) (e : Entry) → IsCurrent h node v →
         IsMore (record { origin = node; num = count v node + 1; body = e.body })
@@ -43,15 +45,15 @@ pub fn an_entry_is_one_more_fact()
         IsCurrent h other u → (other ≡ node → ⊥) → IsCurrent (with_entry h node e) other u }
 {}
 
-/// In the history without entries each node's view is that of no facts.
+/// In the history without entries each node's view is the view of no facts.
 pub fn no_entries_make_an_empty_view()
     ensures { (nodes node : ℕ) → 1 ≤ node → node ≤ nodes →
         IsViewIn (replicate nodes []) node (replicate nodes 0) (empty_view nodes) }
 {}
 
-/// A patch adds exactly its fact: where it is made for the view of a node in a lawful history, the
-/// history with the command's entry is lawful too, and the patched view is that of the node there.
-/// Its front is the node's front with one more of the node.
+/// A patch adds exactly its fact. If it is made for the view of a node in a lawful history, the
+/// history with the command's entry is lawful too, and the patched view is that node's view there.
+/// Its front is the node's front with one more fact of the node.
 pub fn a_patch_adds_exactly_its_fact()
     ensures view { (h : History)
         (node : ℕ) (v : List ℕ) (view : View) (c : Command) (change : Change) →
@@ -62,31 +64,31 @@ pub fn a_patch_adds_exactly_its_fact()
         AddsFact (facts h v) view node c (Some change) → change.front ≡ raised v node }
 {}
 
-/// The patch of a command holds only what changes, each once: what it puts isn't there as it is,
-/// and what it removes is.
+/// The patch of a command holds only what changes, each once. No record that it puts is there
+/// unchanged, and every record that it removes is there.
 pub fn a_patch_holds_only_changes()
     ensures { (S : List Fact) (view : View) (me : ℕ) (c : Command) →
         1 ≤ me → me ≤ length view.front → IsSettled S → StandsFor S view →
         judge_on view me c ≡ Accepted → HoldsOnlyChanges view (change_on view me c) }
 {}
 
-/// A purge removes a tree: with one more fact, which purges a root, just those LRAs are held that
-/// were held before and are not under that root.
+/// A purge removes a tree. After one more fact, which purges a root, exactly those LRAs are held
+/// that were held before and are not under that root.
 pub fn a_purge_removes_a_tree()
     ensures { (f : Fact) (S T : List Fact) (root l : Id) →
         IsMore f S T → IsSettled S → f.body ≡ Purge root →
         is_root S root ≡ true → is_held T l ≡ (is_held S l && not (is_under S root l)) }
 {}
 
-/// A set of facts has one view of so many nodes.
+/// A set of facts has only one view for a given number of nodes.
 #[tactic(auto, using(crate::proofs::OneViewOfASet::one_view))]
 pub fn a_set_has_one_view()
     ensures { (S : List Fact) (a b : View) →
         length a.front ≡ length b.front → StandsFor S a → StandsFor S b → a ≡ b }
 {}
 
-/// Where a view stands for a settled set, its reply to a command is that of the set, and the next
-/// view stands for the set after it.
+/// If a view stands for a settled set, its reply to a command is that of the set, and the next view
+/// stands for the set after the command.
 pub fn a_view_replies_as_its_set()
     ensures { (S : List Fact) (view : View) (me : ℕ) (c : Command) →
         1 ≤ me → me ≤ length view.front →

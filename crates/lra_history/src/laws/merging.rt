@@ -1,5 +1,5 @@
-// Laws of merges. Each view is that of a closed set of one lawful history, and one is a part of
-// another where its set is.
+// Laws of merges. Each view is that of a closed set of one lawful history. A view is part of
+// another if its set is part of the other's.
 ghost use Rattle.std.specs.Prelude.{◌≡◌, ◌≤◌, ◌&&◌, ℕ, List, false, length, true};
 ghost use Rattle.lra_id.specs.Fronts.{is_covered, join_fronts};
 ghost use Rattle.lra_id.specs.Ids.{Id};
@@ -14,14 +14,15 @@ ghost use Rattle.lra_history.specs.NodeViews.{IsCurrent};
 ghost use Rattle.lra_history.specs.Merging.{IsAbsorbed, IsClosedView, IsMerged, IsPartOf, Telling, TellsNews, merged};
 ghost use Rattle.lra_history.specs.Views.{IsInOrder, StandsFor, View};
 
-/// Two views that count the same nodes, and whose homes' records are in order, have just one merge.
+/// Two views have exactly one merge if they count the same nodes and their homes' records are in
+/// order.
 pub fn two_views_have_a_merge()
     ensures merge { (a b : View) →
         length a.front ≡ length b.front → IsInOrder a → IsInOrder b → IsMerged a b (merged a b) }
     ensures only { (a b c : View) → IsInOrder a → IsInOrder b → IsMerged a b c → c ≡ merged a b }
 {}
 
-/// To take what is news of another view is to merge it.
+/// Taking what is news of another view is the same as merging it.
 #[tactic(auto, using(crate::proofs::TellingNews::merged_from, crate::proofs::TellingNews::absorbed_from))]
 pub fn telling_news_is_merging()
     ensures merged { (a b c : View) (telling : Telling) →
@@ -30,9 +31,9 @@ pub fn telling_news_is_merging()
         TellsNews a telling b → IsMerged a b c → IsAbsorbed a telling c }
 {}
 
-/// The merge of the views of two closed sets is the view of the sets' union, and that is closed
-/// too. A node's front that is merged with another stays the node's: it counts all that the node
-/// entered.
+/// The merge of the views of two closed sets is the view of the sets' union, which is closed too.
+/// If a node's front is merged with another, it stays the node's: it counts everything that the
+/// node entered.
 pub fn a_merge_is_the_union()
     ensures view { (h : History) (v w : List ℕ) (a b c : View) →
         IsLawful h → IsClosed h v → IsClosed h w → StandsFor (facts h v) a →
@@ -43,9 +44,9 @@ pub fn a_merge_is_the_union()
         IsCurrent h node (join_fronts v w) }
 {}
 
-/// Whether an LRA is held in the union of two closed sets: where both count its begin, it is if
-/// both hold it, so what one purged stays away; where only one counts it, it is if that one holds
-/// it.
+/// Whether an LRA is held in the union of two closed sets. If both count its begin, it is held if
+/// both hold it, so an LRA that one of them purged stays away. If only one counts its begin, it is
+/// held if that one holds it.
 pub fn an_lra_is_held_in_the_union()
     ensures both { (h : History) (v w : List ℕ) → IsLawful h →
         IsClosed h v → IsClosed h w → (l : Id) → is_covered v l ≡ true → is_covered w l ≡ true →
@@ -55,41 +56,41 @@ pub fn an_lra_is_held_in_the_union()
         is_covered w l ≡ false → is_held (facts h (join_fronts v w)) l ≡ is_held (facts h v) l }
 {}
 
-/// Of two closed sets the one with the greater home stamp of an LRA has all that the home entered
-/// about it, so a merge may take the home's part of one record whole.
+/// Of two closed sets, the one with the greater home stamp of an LRA has everything that the home
+/// entered about the LRA. So a merge may take the home's part from one record as a whole.
 pub fn the_greater_home_stamp_has_the_homes_facts()
     ensures { (h : History) (v w : List ℕ) → IsLawful h → IsClosed h v → IsClosed h w →
         (l : Id) (f : Fact) → stamp (facts h w) l l.home ≤ stamp (facts h v) l l.home →
         In f (facts h w) → f.origin ≡ l.home → is_about l f ≡ true → In f (facts h v) }
 {}
 
-/// Of two closed sets the greater outcome of each act is heard in the union.
+/// In the union of two closed sets, the greater outcome of each act is heard.
 pub fn the_greater_outcome_is_heard_in_the_union()
     ensures { (h : History) (v w : List ℕ) (l : Id) (m : ℕ) (act : TheAct) →
         heard (facts h (join_fronts v w)) l m act
         ≡ greater (heard (facts h v) l m act) (heard (facts h w) l m act) }
 {}
 
-/// A view merged with itself stays as it is.
+/// Merging a view with itself changes nothing.
 pub fn merging_again_changes_nothing()
     ensures { (h : History) (v : List ℕ) (a c : View) →
         IsLawful h → IsClosedView h v a → IsMerged a a c → c ≡ a }
 {}
 
-/// It is the same which of two views is merged into the other.
+/// Merging either of two views into the other gives the same.
 pub fn merges_go_either_way()
     ensures { (h : History) (v w : List ℕ) (a b c d : View) → IsLawful h →
         IsClosedView h v a → IsClosedView h w b → IsMerged a b c → IsMerged b a d → c ≡ d }
 {}
 
-/// It is the same which two of three views are merged first.
+/// Merging three views gives the same, whichever two are merged first.
 pub fn merges_go_in_any_order()
     ensures { (h : History) (u v w : List ℕ) (a b c ab bc left right : View) → IsLawful h →
         IsClosedView h u a → IsClosedView h v b → IsClosedView h w c → IsMerged a b ab →
         IsMerged ab c left → IsMerged b c bc → IsMerged a bc right → left ≡ right }
 {}
 
-/// Both views are parts of their merge, and it is a part of each view of which both are parts.
+/// Both views are part of their merge, and the merge is part of each view of which both are part.
 pub fn a_merge_is_the_least_upper_bound()
     ensures first { (h : History) (v w : List ℕ) (a b c : View) →
         IsLawful h → IsClosedView h v a → IsClosedView h w b → IsMerged a b c → IsPartOf h a c }

@@ -9,15 +9,16 @@ ghost use Rattle.lra_facts.specs.Sets.{is_root, want};
 ghost use Rattle.lra_history.specs.Histories.{History, IsClosed, IsLawful, Made, facts};
 ghost use Rattle.lra_history.specs.Rising.{IsCancelledAbove, IsDecision, IsShownCancelled, IsShownClosed, rank_in};
 
-/// What an LRA shows never falls in rank as more facts are known: in two closed sets of a lawful
-/// history, where the front of the first is below that of the second and covers the LRA. The last
-/// rank is that of an LRA that is not held, so what is purged does not come back.
+/// What an LRA shows never falls in rank as more facts become known. This compares two closed sets
+/// of a lawful history, where the front of the first is below that of the second and covers the
+/// LRA. The last rank is that of an LRA that is not held, so an LRA that was purged does not come
+/// back.
 pub fn statuses_only_rise()
     ensures { (h : History) (v w : List ℕ) (l : Id) → IsLawful h → IsClosed h v → IsClosed h w →
         IsBelow v w → is_covered v l ≡ true → rank_in (facts h v) l ≤ rank_in (facts h w) l }
 {}
 
-/// An LRA is closed or cancelled at most once in a whole history, and by its home.
+/// An LRA is closed or cancelled at most once in a whole history, and only by its home.
 pub fn one_decision_each()
     ensures once { (h : History) (l : Id) (one other : Verdict) (d e : Made) → IsLawful h →
         IsDecision h l one d → IsDecision h l other e → d ≡ e }
@@ -25,10 +26,10 @@ pub fn one_decision_each()
         IsDecision h l verdict e → e.fact.origin ≡ l.home }
 {}
 
-/// No verdict is split: where an LRA is shown Closed or FailedToClose in one closed set of a lawful
-/// history and Cancelled or FailedToCancel in another, an LRA in which it is nested was cancelled.
-/// The same of what it wants. So a root never wants both, and no node shows it closed where another
-/// shows it cancelled.
+/// No verdict is split. If an LRA is shown Closed or FailedToClose in one closed set of a lawful
+/// history and Cancelled or FailedToCancel in another, an LRA above it was cancelled. The same
+/// holds for what the LRA wants. So a root never wants both, and no node shows it closed while
+/// another shows it cancelled.
 pub fn no_split_verdict()
     ensures shown { (h : History) (v w : List ℕ) (l : Id) →
         IsLawful h → IsClosed h v → IsClosed h w →
@@ -44,9 +45,9 @@ pub fn no_split_verdict()
         IsShownClosed (facts h v) l → IsShownCancelled (facts h w) l → ⊥ }
 {}
 
-/// What a listener hears is decided for good: where an LRA is at its end in a closed set of a
-/// lawful history, so that its listeners are to be told, it is so in each closed set with more
-/// facts, and wants the same there. So a worse report alone may still turn Closed into
+/// What a listener hears is decided for good. If an LRA is at its end in a closed set of a lawful
+/// history, so that its listeners are to be told, it is at its end in each closed set with more
+/// facts, and wants the same there. So only a worse report may still turn Closed into
 /// FailedToClose, or Cancelled into FailedToCancel.
 pub fn what_is_at_its_end_stays_there()
     ensures wants { (h : History) (v w : List ℕ) (l : Id) →
