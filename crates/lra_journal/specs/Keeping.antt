@@ -12,18 +12,19 @@ use Rattle.lra_journal.specs.Tables.{IsJournal}
 abbrev pub IsOwn : State → Type 0
 IsOwn s = IsNew s ⊎ IsJournal s
 
--- A journal as contracts see it: its connection, what that was when the journal was opened, and how often the database refused
--- since, a lack of memory apart, as far as a number of 64 bits counts
+-- A journal as contracts see it: its connection, the state of that connection when the journal was
+-- opened, and the number of the database's refusals since then, except for those because memory ran
+-- out, as far as a number of 64 bits counts
 pub record JournalState (S : Type 0) : Type 0 where
   pub connection : Held S
   pub opened : Held S
   pub refusals : ℕ
 
--- A journal that was opened on a store of its own keeps this view of the node: while the disk is clean and the connection open,
--- its rows stand for it
+-- A journal that was opened on a store of its own keeps this view of the node: while the disk is
+-- clean and the connection open, its rows stand for the view
 abbrev pub Keeps : {S : Type 0} → Ghosts S → (me : ℕ) → JournalState S → View → Type 0
 Keeps g me journal view = IsOwn (state g journal.opened) → KeepsView me (state g journal.connection) view
 
--- one refusal more was counted, unless the count is as great as it gets
+-- one more refusal was counted, unless the count is as great as possible
 abbrev pub IsCounted : (old new : ℕ) → Type 0
 IsCounted old new = (new ≡ old + 1) ⊎ ((new ≡ old) × (old ≡ 18446744073709551615))

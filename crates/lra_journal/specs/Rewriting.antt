@@ -1,4 +1,4 @@
--- The rows of a view, written anew.
+-- Rewriting the rows of a view.
 use Rattle.std.specs.Prelude.{◌≡◌, ◌⊎◌, ◌++◌, ℕ, pos, List, ◌∷◌}
 use Rattle.std.specs.List.{flat_map}
 use Rattle.sqlite.specs.Order.{Row}
@@ -17,13 +17,14 @@ use Rattle.lra_journal.specs.Statements.{IsRefusedOn, Makes, front_values, lra_v
 abbrev pub all_records : List (List Record) → List Record
 all_records homes = flat_map (λ (rs : List Record). rs) homes
 
--- the row of each record is written, and then the first row of `front`: the node's own number and version 2
+-- the row of each record is written, and then the first row of `front` with the node's own number
+-- and version 2
 pub record Rewrites (me : ℕ) (homes : List (List Record)) (old new : Trees) : Type 0 where
   pub mid : Trees
   pub records : InTurn PutsRecord (all_records homes) old mid
   pub version : SetsFront 0 (pos me) (pos 2) mid new
 
--- Why they can't be written. They are written in the order of `Rewrites`
+-- Why the rows can't be written. They are written in the order of `Rewrites`
 
 -- the values of the row of a record
 abbrev pub row_values : Record → Row
@@ -37,7 +38,8 @@ MakesRow r old new = Makes put_lra (row_values r) old new
 abbrev pub RefusesRow : Record → Trees → Type 0
 RefusesRow r db = IsRefusedOn put_lra (row_values r) db
 
--- the rows of the first of these records were written, and that of the next is refused
+-- the rows of some of these records, from the first on, were written, and that of the next record
+-- is refused
 pub record RefusesOneOf (records : List Record) (old : Trees) : Type 0 where
   pub done : List Record
   pub next : Record
@@ -56,8 +58,8 @@ pub record RefusesVersion (me : ℕ) (records : List Record) (old : Trees) : Typ
 abbrev pub RefusesRewriting : (me : ℕ) → (homes : List (List Record)) → Trees → Type 0
 RefusesRewriting me homes old = RefusesOneOf (all_records homes) old ⊎ RefusesVersion me (all_records homes) old
 
--- Rows of version 1 that SQL refuses to write anew, by the kit's account of it. That the kit refuses none of a journal that a node
--- made isn't proved
+-- Rows of version 1 that SQL refuses to rewrite, by the kit's account of SQL. It isn't proved that
+-- the kit refuses no rows of a journal that a node made
 pub record IsUnwritable (me : ℕ) (db : Trees) : Type 0 where
   pub view : View
   pub before : StandsAs One me db view

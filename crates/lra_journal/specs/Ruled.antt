@@ -1,4 +1,4 @@
--- What is asked of the tables and of a view, so that rows that stand for it are never refused.
+-- What the tables and a view must satisfy so that rows that stand for the view are never refused.
 use Rattle.std.specs.Prelude.{◌≤◌, ◌<◌, ◌^◌, ℕ, length}
 use Rattle.sqlite.specs.Tree.{Trees, IsTable}
 use Rattle.lra_id.specs.declared.TheConstants.{MAX_NODES}
@@ -18,18 +18,18 @@ pub record AreTables (db : Trees) : Type 0 where
   pub front : IsTable (db front_tree)
   pub lra : IsTable (db lra_tree)
 
--- The view keeps the rules by which rows of a version are read: it is of at most 8 nodes and has counts of 48 bits, each of its
--- records keeps those of records under its front, and it has the shape
+-- The view keeps the rules by which rows of a version are read: it has at most 8 nodes and counts
+-- of 48 bits, each of its records keeps the rules of a record under its front, and it has the shape
 pub record KeepsRulesAs (v : Version) (view : View) : Type 0 where
   pub few : length view.front ≤ MAX_NODES
   pub small : (node : ℕ) → count view.front node < 2 ^ 48
   pub records : (r : Record) → IsHeld view r → IsRecordUnderAs v view.front r
   pub shape : HasShape view
 
--- those of version 2
+-- the view keeps the rules of version 2
 abbrev pub KeepsRules : View → Type 0
 KeepsRules view = KeepsRulesAs Two view
 
--- each of its records has the types of one: a deadline of 64 bits, and kept links
+-- each record of the view has the types of a record: a deadline of 64 bits, and kept links
 abbrev pub AreTyped : View → Type 0
 AreTyped view = (r : Record) → IsHeld view r → IsTypedRecord r

@@ -1,4 +1,4 @@
--- The two statements that write a row, and what a statement comes to by the kit's account of SQL.
+-- The two statements that write a row, and the results of a statement by the kit's account of SQL.
 use Rattle.std.specs.Prelude.{◌≡◌, ◌⊎◌, ℕ, ℤ, pos, List, [], ◌∷◌, codes, false, None, Ok, Option, Err}
 use Rattle.sqlite_disk.specs.Disk.{MoreFaults}
 use Rattle.sqlite.specs.declared.error.Error.{Error}
@@ -32,19 +32,20 @@ lra_values home num body = Int (pos home) ∷ Int num ∷ Blob body ∷ []
 abbrev pub on_journal : Trees → Database
 on_journal db = record { schema = journal_schema; trees = db }
 
--- What a statement with these values comes to on the tables, without a limit on steps: the tables that it makes of them, or a refusal
+-- The result of a statement with these values on the tables, without a limit on steps: the tables
+-- after it, or a refusal
 abbrev pub ComesTo : (sql : List ℕ) → (values : Row) → Trees → Outcome (Tally × Database) → Type 0
 ComesTo sql values db out = (c : Compiled) × (understood journal_schema sql ≡ Ok c)
     × Does None (record { keys = Enforced; in_doubt = false; may_wait = false }) values (on_journal db) (text_of sql c) c.returning c.command out
 
--- it makes these of them
+-- the statement turns the old tables into these
 abbrev pub Makes : (sql : List ℕ) → (values : Row) → Trees → Trees → Type 0
 Makes sql values db next = (tally : Tally) × ComesTo sql values db (Ok (tally, on_journal next))
 
--- it is refused on them
+-- the statement is refused on these tables
 abbrev pub IsRefusedOn : (sql : List ℕ) → (values : Row) → Trees → Type 0
 IsRefusedOn sql values db = (stop : Option Error) × ComesTo sql values db (Err stop)
 
--- why a statement fails: memory was wanting, the disk failed, or the statement is refused so
+-- the reason why a statement fails: memory ran out, the disk failed, or the statement is refused so
 abbrev pub FailsFor : Error → (before after : ℕ) → (refused : Type 0) → Type 0
 FailsFor e before after refused = (e ≡ SqliteFailure OutOfMemory) ⊎ (MoreFaults before after ⊎ refused)

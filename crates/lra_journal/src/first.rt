@@ -1,4 +1,4 @@
-// What a connection was when its journal was opened.
+// The state of a connection when its journal was opened.
 ghost use Rattle.std.specs.Prelude.{◌≡◌};
 ghost use Rattle.std.specs.Borrow.{ftrue};
 ghost use Rattle.sqlite.specs.Held.{Held, held_code};
@@ -6,8 +6,8 @@ ghost use Rattle.sqlite.specs.Held.{Held, held_code};
 use sqlite::{Alter, Connection};
 use std::marker::{Model, PhantomData};
 
-/// What a connection was when its journal was opened, for clauses alone. It has no bytes. With
-/// std's `Snapshot` in its place a journal isn't found to cross threads.
+/// The state of a connection when its journal was opened, which only clauses read. It has no bytes.
+/// With std's `Snapshot` in its place, a journal isn't found to cross threads.
 #[derive(Drop)]
 pub struct First<S: Alter> {
     of: PhantomData<S>,
@@ -24,7 +24,7 @@ unsafe impl<S: Alter + Send> Send for First<S> {}
 unsafe impl<S: Alter + Sync> Sync for First<S> {}
 
 impl<S: Alter> First<S> {
-    /// What this connection is.
+    /// Takes the state of this connection.
     pub fn of(connection: &Connection<S>) -> First<S>
         ensures { result.held ≡ connection.now }
     {

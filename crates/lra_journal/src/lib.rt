@@ -1,4 +1,4 @@
-//! The journal of a replica, in two tables of a SQLite database.
+//! The journal of a replica: its rows in two tables of a SQLite database.
 #![tactic(auto)]
 
 mod first;

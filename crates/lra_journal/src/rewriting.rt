@@ -1,4 +1,4 @@
-// The rows of a journal of version 1, written anew in version 2.
+// Rewriting the rows of a journal of version 1 in version 2.
 ghost use Rattle.std.specs.Prelude.{◌≡◌, ◌<◌, None, false, true, IfErr, IsTrue, OnErr, OnOk};
 ghost use Rattle.sqlite.specs.Held.{state};
 ghost use Rattle.sqlite.specs.State.{HasCleanDisk, KeepsCommit, Survives};
@@ -85,7 +85,7 @@ fn put_homes<S: Alter>(
 }
 
 /// Writes the row of each record, and then that of the version. Records come from pages here, and
-/// from a list in `put_patch`: so each has its own loop.
+/// from a list in `put_patch`, so each has its own loop.
 fn put_rows<S: Alter>(
     alloc: Global,
     tx: &mut Transaction<'_, S>,
@@ -112,8 +112,8 @@ fn put_rows<S: Alter>(
     put_front(tx, 0, u64::from(me.number()), VERSION)
 }
 
-/// The same. A connection that is shut is refused by the question before, so that nothing is said
-/// of one.
+/// Like `put_rows`. A connection that is shut was already refused by the question before this, so
+/// nothing is said of one.
 fn put_anew<S: Alter>(
     alloc: Global,
     tx: &mut Transaction<'_, S>,
@@ -182,7 +182,7 @@ fn write_anew<S: Alter>(
     tx.commit()
 }
 
-/// Writes the rows of version 1 that stand for a replica anew in version 2, in one transaction. E17
+/// Rewrites the rows of version 1 that stand for a replica in version 2, in one transaction. E17
 /// and E18 leave them as they were, or the connection is shut.
 pub(crate) fn rewrite<S: Alter>(
     alloc: Global,
@@ -211,7 +211,7 @@ pub(crate) fn rewrite<S: Alter>(
         (IsJournal (state S.Store connection.old) →
         StandsAs One me (state S.Store connection.old).now.trees (view_of replica.now) →
         Stands me db (view_of replica.now))) }
-    // It fails for lack of memory, where the disk fails, or where SQL refuses one of the rows.
+    // It fails only if memory runs out, if the disk fails, or if SQL refuses one of the rows.
     ensures failed { HasCleanDisk (state S.Store connection.new) →
         IsJournal (state S.Store connection.old) → connection.old.step_limit ≡ None →
         IfErr result (λ e. FailsFor e (state S.Store connection.old).faults
