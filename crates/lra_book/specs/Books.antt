@@ -1,4 +1,4 @@
--- A book as contracts see it, and what a call of it does.
+-- A book as contracts see it, and what a call to it does.
 use Rattle.std.specs.Prelude.{◌≡◌, ◌≤◌, ◌⊎◌, ◌&&◌, ◌||◌, ◌++◌, ◌∷◌, ℕ, Bool, true, false, Option, Some, None, List, [], ◌+◌, IfSome, IsTrue, if◌then◌else◌, length, nat_le, nat_lt}
 use mathlib.Core.Bool.{not}
 use Rattle.lra_facts.specs.declared.refusal.Refusal.{Refusal}
@@ -21,8 +21,8 @@ use Rattle.lra_journal.specs.Tables.{IsJournal}
 use Rattle.lra_book.specs.Next.{IsNext, is_move}
 use Rattle.lra_book.specs.Trails.{LeadsTo, entry}
 
--- A node's number, its view, and its journal; of the run that is on the view at its opening, none where no run is on, and the
--- calls since; and whether the journal failed
+-- A node's number, its view, and its journal. Of the current run it has the view at its opening, or
+-- none if there is no run, and the calls since then. It also says whether the journal failed
 pub record BookState (S : Type 0) : Type 0 where
   pub me : ℕ
   pub records : View
@@ -36,28 +36,31 @@ abbrev pub moves_in : List Entry → ℕ
 moves_in [] = 0
 moves_in (e ∷ es) = (if is_move e.call then 1 else 0) + moves_in es
 
--- the trail of the run that is on is legal from its opening, and its replay is the view
+-- the trail of the current run is legal from its opening, and its replay is the view
 abbrev pub IsLegal : {S : Type 0} → BookState S → Type 0
 IsLegal book = IfSome book.opening (λ opening. LeadsTo book.me opening book.trail book.records)
 
--- What every book keeps: the trail is legal, and the journal's rows stand for the view
+-- What every book satisfies: the trail is legal, and the journal's rows stand for the view
 pub record IsBook {S : Type 0} (g : Ghosts S) (book : BookState S) : Type 0 where
   pub node : book.me ≤ length book.records.front
   pub legal : IsLegal book
   pub stored : Keeps g book.me book.journal book.records
   pub few : length book.trail ≤ 1024
 
--- a run has room for one more entry of the call: of 1,024 entries, and of 16 that move a frame
+-- a run has room for one more entry of this call: at most 1,024 entries, and at most 16 that move a
+-- frame
 abbrev pub has_room_for : List Entry → Call → Bool
 has_room_for trail asked = nat_lt (length trail) 1024 && (not (is_move asked) || nat_lt (moves_in trail) 16)
 
--- the refusals of a call that come before all else, in their order: of a pass that has seen so many entries
+-- the refusals of a call that come before all else, in their order, for a pass that has seen this
+-- many entries
 abbrev pub refusal_at_once : {S : Type 0} → BookState S → (seen : ℕ) → Call → Option Refusal
 refusal_at_once book seen asked =
     first (unless (not book.stopped) Stopped ∷ unless (nat_le seen (length book.trail)) (TrailLost (length book.trail))
     ∷ unless (has_room_for book.trail asked) RunFull ∷ [])
 
--- One entry more, of this call and moment, with the node's next reply, and its next view. The receipt says so
+-- One more entry, of this call and moment, with the node's next reply, and its next view. The
+-- receipt says the same
 pub record IsEntered {S : Type 0} (old : BookState S) (seen : ℕ) (new : BookState S) (asked : Call) (now : ℕ) (r : Receipt) : Type 0 where
   pub free : refusal_at_once old seen asked ≡ None
   pub index : r.index ≡ length old.trail
@@ -68,42 +71,44 @@ pub record IsEntered {S : Type 0} (old : BookState S) (seen : ℕ) (new : BookSt
   pub node : new.me ≡ old.me
   pub running : new.stopped ≡ false
 
--- all but the journal and the stop is as it was
+-- everything except the journal and the stop is as it was
 pub record Stays {S : Type 0} (old new : BookState S) : Type 0 where
   pub node : new.me ≡ old.me
   pub records : new.records ≡ old.records
   pub opening : new.opening ≡ old.opening
   pub trail : new.trail ≡ old.trail
 
--- What is refused later: for lack of memory, and the book goes on; or since the database refused, and it stops
+-- What is refused later: memory ran out, and the book goes on; or the database refused, and the
+-- book stops
 abbrev pub IsRefusedLate : {S : Type 0} → (old new : BookState S) → Refusal → Type 0
 IsRefusedLate old new NoMemory = Stays old new × (new.stopped ≡ false)
 IsRefusedLate old new JournalFailed = Stays old new × (new.stopped ≡ true) × IsCounted old.journal.refusals new.journal.refusals
 IsRefusedLate old new _ = ⊥
 
--- why a patch isn't stored: for lack of memory, or since the database refused, which is counted
+-- the reason why a patch isn't stored: memory ran out, or the database refused, which is counted
 abbrev pub IsStoreFault : {S : Type 0} → (old new : JournalState S) → Refusal → Type 0
 IsStoreFault old new NoMemory = new.refusals ≡ old.refusals
 IsStoreFault old new JournalFailed = IsCounted old.refusals new.refusals
 IsStoreFault old new _ = ⊥
 
--- why a call is not entered
+-- the reason why a call is not entered
 abbrev pub IsNotEntered : {S : Type 0} → (old : BookState S) → (seen : ℕ) → (new : BookState S) → Call → Refusal → Type 0
 IsNotEntered old seen new asked refusal =
     ((refusal_at_once old seen asked ≡ Some refusal) × (new ≡ old))
     ⊎ ((refusal_at_once old seen asked ≡ None) × IsRefusedLate old new refusal)
 
--- Where the journal's rows stand for the view, a stop in a call may leave rows for the view that comes next
+-- If the journal's rows stand for the view, a stop in a call may leave rows for the next view
 abbrev pub MayCommit : {S : Type 0} → Ghosts S → (old : BookState S) → Call → (now : ℕ) → Trees → Type 0
 MayCommit g old asked now db = IsJournal (state g old.journal.connection) → Stands old.me (state g old.journal.connection).now.trees old.records →
     (reply : Reply) × (next : View) × IsNext old.me old.records asked now reply next × Stands old.me db next
 
--- The records, and those that come next, keep the rules by which rows are read
+-- The records, and the next ones, keep the rules by which rows are read
 pub record AreRuled {S : Type 0} (old : BookState S) (asked : Call) (now : ℕ) : Type 0 where
   pub before : KeepsRules old.records
   pub next : (reply : Reply) (b : View) → IsNext old.me old.records asked now reply b → KeepsRules b
 
--- A start behind a call. The call left the connection so, a stop may leave these rows of it, and they stand for what is found
+-- A start after a call. The call left the connection in this state, a stop may leave these rows of
+-- it, and they stand for what is found
 pub record IsStartedBehind {S : Type 0} (g : Ghosts S) (old : BookState S) (asked : Call) (now : ℕ) (left : Held S) (db : Trees) (found : View) : Type 0 where
   pub own : IsOwn (state g old.journal.opened)
   pub was_open : IsTrue (state g old.journal.connection).is_open
@@ -114,7 +119,7 @@ pub record IsStartedBehind {S : Type 0} (g : Ghosts S) (old : BookState S) (aske
   pub stands : StandsAs version old.me db found
   pub rules : KeepsRules found
 
--- a run began: no entry, and the opening is the view
+-- a run began: there is no entry, and the opening is the view
 pub record IsBegun {S : Type 0} (old new : BookState S) : Type 0 where
   pub node : new.me ≡ old.me
   pub records : new.records ≡ old.records
@@ -124,13 +129,13 @@ pub record IsBegun {S : Type 0} (old new : BookState S) : Type 0 where
   pub before : old.stopped ≡ false
   pub stopped : new.stopped ≡ false
 
--- why no run began
+-- the reason why no run began
 abbrev pub IsNotBegun : {S : Type 0} → BookState S → Refusal → Type 0
 IsNotBegun book Stopped = book.stopped ≡ true
 IsNotBegun book NoMemory = book.stopped ≡ false
 IsNotBegun book _ = ⊥
 
--- no run is on, and all else is as it was
+-- there is no run, and everything else is as it was
 pub record IsEnded {S : Type 0} (old new : BookState S) : Type 0 where
   pub node : new.me ≡ old.me
   pub records : new.records ≡ old.records
@@ -139,7 +144,7 @@ pub record IsEnded {S : Type 0} (old new : BookState S) : Type 0 where
   pub trail : new.trail ≡ []
   pub stopped : new.stopped ≡ old.stopped
 
--- the book of a node of so many, with no run on
+-- the book of a node, for this many nodes, with no run
 pub record IsOpened {S : Type 0} (node nodes : ℕ) (book : BookState S) : Type 0 where
   pub me : book.me ≡ node
   pub count : length book.records.front ≡ nodes

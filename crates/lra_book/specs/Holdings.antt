@@ -1,4 +1,4 @@
--- All that is held of an LRA, and what is held of many in short.
+-- All that is held of an LRA, and summaries of what is held of many.
 use Rattle.std.specs.Prelude.{◌++◌, ◌∷◌, ℕ, zero, suc, Bool, Option, Some, None, List, [], Result, Ok, Err, length, map}
 use Rattle.std.specs.Option.{option_map}
 use Rattle.lra_id.specs.Ids.{Id}
@@ -15,17 +15,18 @@ use Rattle.lra_book.specs.declared.holdings.Summary.{Summary}
 
 -- One LRA
 
--- what is shown of a participant; none where there is no such one
+-- the status of a participant, `None` if there is no such participant
 abbrev pub shown_in : Result MemberStatus Refusal → Option MemberStatus
 shown_in (Ok status) = Some status
 shown_in (Err refusal) = None
 
--- what each of the members 1 to n shows, by what is shown of a number
+-- the status of each of the members 1 to n, by what is shown for a number
 abbrev pub statuses_of : (ℕ → Result MemberStatus Refusal) → (n : ℕ) → List (Option MemberStatus)
 statuses_of shown zero = []
 statuses_of shown (suc n) = statuses_of shown n ++ shown_in (shown (suc n)) ∷ []
 
--- all that is held of an LRA: what it shows, its record, what is shown of its members, and what its purge would be replied
+-- all that is held of an LRA: its status, its record, the statuses of its members, and the reply
+-- that its purge would get
 abbrev pub holding_of : Id → LraStatus → Record → (ℕ → Result MemberStatus Refusal) → CommandReply → Holding
 holding_of l status r shown purge =
     record { id = l; status = status; «record» = r; members = statuses_of shown (length r.members); purge = purge }

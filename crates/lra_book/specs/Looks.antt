@@ -24,13 +24,14 @@ abbrev pub lost : Option ℕ → Option Refusal
 lost None = None
 lost (Some n) = Some (TrailLost n)
 
--- the refusal that these receipts meet, of a pass that has seen so many entries
+-- the refusal that these receipts meet, for a pass that has seen this many entries
 abbrev pub look_of : {S : Type 0} → BookState S → (seen : ℕ) → List Receipt → Option Refusal
 look_of book seen receipts =
     first (unless (not book.stopped) Stopped ∷ unless (nat_le seen (length book.trail)) (TrailLost (length book.trail))
     ∷ lost (lost_from book.trail None receipts) ∷ [])
 
--- why a call at a desk is refused: what a look finds, and nothing changes; else why the book refuses it
+-- why a call at a desk is refused: because of what a look finds, and then nothing changes, or else
+-- for the book's reason
 abbrev pub IsRefusedAt : {S : Type 0} → (old : BookState S) → (seen : ℕ) → List Receipt → (new : BookState S) → Call → Refusal → Type 0
 IsRefusedAt old seen receipts new asked refusal =
     ((look_of old seen receipts ≡ Some refusal) × (new ≡ old))

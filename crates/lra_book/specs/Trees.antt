@@ -1,4 +1,5 @@
--- What the tree of an LRA shows, which is the LRA with all that is nested in it: by a view, and by a set of facts.
+-- What the tree of an LRA shows, which is the LRA with everything nested in it: by a view, and by a
+-- set of facts.
 use Rattle.std.specs.Prelude.{ℕ, Bool, true, false, List, [], ◌∷◌, Result, Ok, Err}
 use Rattle.std.specs.Option.{option_map_or}
 use Rattle.lra_id.specs.Ids.{Id}
@@ -12,11 +13,11 @@ use Rattle.lra_history.specs.Readings.{at_home, by_view}
 use Rattle.lra_history.specs.Replies.{by_facts, gone_by}
 use Rattle.lra_history.specs.Views.{View}
 
--- what the view's records say that it shows
+-- what the tree shows by the view's records
 abbrev pub tree_on : View → Id → LraStatus
 tree_on view l = tree_shown_at (at_home view l.home) l.num
 
--- what is shown of the tree of an LRA, or the refusal
+-- what the tree of an LRA shows, or the refusal
 abbrev pub tree_shown_on : View → Id → Result LraStatus Refusal
 tree_shown_on view l = option_map_or (λ r. Err r) (first (unknown view.front l ∷ gone_by (by_view view) l ∷ [])) (Ok (tree_on view l))
 

@@ -1,4 +1,4 @@
-// The book: what a node holds, its journal, and the trail of the run that is on.
+// The book: what a node holds, its journal, and the trail of the current run.
 ghost use Rattle.std.specs.Prelude.{◌≡◌, ◌≢◌, ◌+◌, ◌<◌, ◌≤◌, ◌⊎◌, ◌↔◌, ◌++◌, ◌∷◌, [], ℕ, None, false, true, IfErr, IfOk, IfSome, IsSome, IsTrue, MatchResult, OnErr, OnOk, length, vec_capacity};
 ghost use Rattle.lra_id.specs.declared.TheConstants.{MAX_NODES};
 ghost use Rattle.lra_facts.specs.declared.refusal.Refusal.TheVariants.{BadFrame, JournalFailed, NoMemory};
@@ -36,13 +36,13 @@ use std::alloc::{AllocError, Global};
 use std::marker::Model;
 use std::mem;
 
-/// The most entries of a run.
+/// The greatest number of entries in a run.
 pub const MAX_ENTRIES: usize = 1024;
 
-/// The most of them that move a frame.
+/// The greatest number of entries in a run that move a frame.
 pub const MAX_MOVES: usize = 16;
 
-/// What a node holds and its journal, with the calls of the run that is on.
+/// What a node holds and its journal, with the calls of the current run.
 #[derive(Drop)]
 pub struct Book<S: Alter> {
     me: NodeId,
@@ -103,7 +103,8 @@ fn has_room_for(trail: &[Entry], call: &Call) -> bool
     trail.len() < MAX_ENTRIES && (!call.is_move() || moves_in(trail) < MAX_MOVES)
 }
 
-/// What is to be entered of a call, a copy of it, and what it changes, if anything.
+/// A call that is ready to be carried out: its entry, a copy for the receipt, and what it changes,
+/// if anything.
 #[derive(Drop)]
 struct Ready {
     entry: Entry,
@@ -111,14 +112,15 @@ struct Ready {
     patch: Option<Patch>,
 }
 
-/// What a receipt says of a call.
+/// The call and the reply that a receipt will contain.
 #[derive(Drop)]
 struct CallAndReply {
     call: Call,
     reply: Reply,
 }
 
-/// Prepares a call, and makes the copies for its entry and its receipt. Only memory can be wanting.
+/// Prepares a call, and makes the copies for its entry and its receipt. It fails only if memory
+/// runs out.
 fn make_ready(
     alloc: Global,
     replica: &mut Replica,
@@ -158,14 +160,14 @@ fn twice(call: &Call) -> Result<(Call, Call), AllocError>
     Ok((call.clone()?, call.clone()?))
 }
 
-/// Whether a receipt says what an entry says.
+/// Whether a receipt has the same call and reply as an entry.
 pub(crate) fn tells(entry: &Entry, receipt: &Receipt) -> bool
     ensures { result ≡ tells entry.now receipt.now }
 {
     same_call(&entry.call, &receipt.call) && same_reply(&entry.reply, &receipt.reply)
 }
 
-/// Whether a receipt is in call and reply the trail's entry at its index.
+/// Whether the trail's entry at the receipt's index has the receipt's call and reply.
 pub(crate) fn stands(trail: &[Entry], receipt: &Receipt) -> bool
     ensures { result ≡ stands trail.now receipt.now }
 {
@@ -197,9 +199,9 @@ fn lost_index(trail: &[Entry], receipts: &[Receipt]) -> Option<u64>
 }
 
 impl<S: Alter> Book<S> {
-    /// The book of node `me` of so many, over its journal, with no run on. A refusal hands the
-    /// connection back. It has the clauses of `Journal::open`, since nothing above a layer names
-    /// the layer below it.
+    /// Opens the book of node `me`, for this many nodes, over its journal. No run has begun yet. A
+    /// refusal returns the connection. This repeats the clauses of `Journal::open`, since nothing
+    /// above a layer names the layer below it.
     pub fn open(
         alloc: Global,
         connection: Connection<S>,
@@ -212,8 +214,8 @@ impl<S: Alter> Book<S> {
         ensures opened { IfOk result (λ book. IsOpened me nodes book
             × (book.journal.opened ≡ connection)) }
         ensures rows { IfOk result (λ book. Keeps S.Store me book.journal book.records) }
-        // A new store gets the rows of a view of no facts. Of a journal's rows, in version 1 or 2,
-        // the records are those that they stand for, by the rules of that version.
+        // A new store gets the rows of a view of no facts. From a journal's rows, in version 1 or
+        // 2, the records are those that the rows stand for, by the rules of that version.
         ensures made { IfOk result (λ book. HasCleanDisk (state S.Store book.journal.connection) →
             IsNew (state S.Store connection) → book.records ≡ empty_view nodes) }
         ensures reads { IfOk result (λ book. HasCleanDisk (state S.Store book.journal.connection) →
@@ -221,11 +223,11 @@ impl<S: Alter> Book<S> {
             × StandsAs version me (state S.Store connection).now.trees book.records
             × KeepsRulesAs version book.records) }
         // The records keep the rules by which rows are read. So rows that break them aren't opened,
-        // where none stands twice.
+        // if no row stands twice.
         ensures ruled { IfOk result (λ book. HasCleanDisk (state S.Store book.journal.connection) →
             IsOwn (state S.Store connection) → KeepsRules book.records) }
-        // Why it is refused: where the rows break the format, for lack of memory, or by the
-        // database. What the connection shows is left, while it is open.
+        // The reason for a refusal: the place where the rows break the format, out of memory, or
+        // the database. What the connection shows is left unchanged, while the connection is open.
         ensures place { IfErr result (λ e. HasCleanDisk (state S.Store e.1) →
             IsJournal (state S.Store connection) → (k : ℕ) →
             e.0 ≡ BadFrame k → IsBrokenAt me nodes (state S.Store connection).now.trees k) }
@@ -234,12 +236,11 @@ impl<S: Alter> Book<S> {
         ensures unchanged { IfErr result (λ e. HasCleanDisk (state S.Store e.1) →
             IsOwn (state S.Store connection) → IsTrue (state S.Store e.1).is_open →
             (state S.Store e.1).now ≡ (state S.Store connection).now) }
-        // A connection whose transaction is on is refused, before all else, and comes back as it
-        // was.
+        // A connection with a transaction on is refused before all else, and comes back as it was.
         ensures busy { connection.in_transaction ≡ true →
             MatchResult result (λ _. ⊥) (λ e. (e.0 ≡ JournalFailed) × (e.1 ≡ connection)) }
-        // Of a journal E18 else comes only where the disk failed, or where SQL refuses to write
-        // rows of version 1 anew.
+        // Otherwise E18 on a journal comes only if the disk failed, or if SQL refuses to rewrite
+        // the rows of version 1.
         ensures failed { IfErr result (λ e. HasCleanDisk (state S.Store e.1) →
             IsJournal (state S.Store connection) → connection.in_transaction ≡ false →
             connection.step_limit ≡ None → e.0 ≡ JournalFailed →
@@ -247,8 +248,8 @@ impl<S: Alter> Book<S> {
             ⊎ IsUnwritable me (state S.Store connection).now.trees) }
         ensures cause { IfErr result (λ e. (e.0 ≡ NoMemory)
             ⊎ ((e.0 ≡ JournalFailed) ⊎ ((k : ℕ) × (e.0 ≡ BadFrame k)))) }
-        // Of a journal of version 2 a stop leaves what it left before. Of one of version 1 it may
-        // also leave its rows in version 2, and of a new store the rows of a view of no facts.
+        // For a journal of version 2, a stop leaves what it left before. For one of version 1 it
+        // may also leave the rows in version 2, and for a new store the rows of a view of no facts.
         ensures crash { IfOk result
             (λ book. Survives (state S.Store connection) (state S.Store book.journal.connection)
             (MayLeaveOpened (state S.Store connection) me nodes)) }
@@ -269,14 +270,14 @@ impl<S: Alter> Book<S> {
         }
     }
 
-    /// Whether a run is on.
+    /// Whether a run is going on.
     pub fn in_run(&self) -> bool
         ensures { IsTrue result ↔ IsSome self.now.opening }
     {
         self.opening.is_some()
     }
 
-    /// The calls of the run that is on, in order.
+    /// Returns the calls of the current run, in order.
     pub fn trail(&self) -> &[Entry]
         ensures trail { result.now ≡ self.now.trail }
         ensures legal { IsLegal self.now }
@@ -284,9 +285,9 @@ impl<S: Alter> Book<S> {
         &self.trail
     }
 
-    /// Begins a run: empties the trail, with room for all entries of a run. What the node holds is
-    /// its opening, which clauses alone read. It gives the run's first pass. E19 where the journal
-    /// failed.
+    /// Begins a run: empties the trail, reserves room for all entries of a run, and returns the
+    /// run's first pass. The run's opening is what the node holds now, which only clauses read. E19
+    /// if the journal failed.
     pub fn start_run(&mut self, alloc: Global) -> Result<Pass, Refusal>
         requires { self.old.opening ≡ None }
         ensures pass { IfOk result (λ pass. pass ≡ 0) }
@@ -319,11 +320,14 @@ impl<S: Alter> Book<S> {
         None
     }
 
-    /// Makes a call at a moment, and enters it with its reply: it is prepared, stored, made and
-    /// entered, in this order. The receipt and the room for it are there before anything is stored.
-    /// E19 where the journal failed before, E21 where the pass has seen more than the trail has,
-    /// E20 where the run has no room for the call: looked at first, in this order. E17, and nothing
-    /// changed. E18 where the journal refused: from then on the book is stopped.
+    /// Makes a call at a moment, and enters it with its reply. The call is prepared, stored,
+    /// applied and entered, in this order. The receipt and the room for it exist before anything is
+    /// stored.
+    ///
+    /// The first checks are, in this order: E19 if the journal failed before, E21 if the pass has
+    /// seen more than the trail has, and E20 if the run has no room for the call. Later errors are
+    /// E17, after which nothing has changed, and E18 if the journal refused, after which the book
+    /// is stopped.
     pub fn call(
         &mut self,
         alloc: Global,
@@ -335,10 +339,10 @@ impl<S: Alter> Book<S> {
         ensures entered { IfOk result
             (λ receipt. IsEntered self.old pass.old self.new call now receipt) }
         ensures legal { IsLegal self.new }
-        // Whatever comes, the journal's rows stand for the records.
+        // Whatever the result, the journal's rows stand for the records.
         ensures rows { Keeps S.Store self.new.me self.new.journal self.new.records }
         ensures first { self.new.journal.opened ≡ self.old.journal.opened }
-        // A stop leaves what it left before, or rows for the view that comes next.
+        // A stop leaves what it left before, or rows for the next view.
         ensures crash { Survives (state S.Store self.old.journal.connection)
             (state S.Store self.new.journal.connection) (MayCommit S.Store self.old call now) }
         // While the connection is open, a stop leaves only rows for the records. So no answered
@@ -348,7 +352,7 @@ impl<S: Alter> Book<S> {
             IsTrue (state S.Store self.new.journal.connection).is_open → (db : Trees) →
             (state S.Store self.new.journal.connection).may_leave db →
             Stands self.new.me db self.new.records }
-        // A call that changed the records found the connection open, and left it open.
+        // If a call changed the records, the connection was open before it and still is.
         ensures open { HasCleanDisk (state S.Store self.new.journal.connection) →
             OnOk result ((self.new.records ≡ self.old.records)
             ⊎ (IsTrue (state S.Store self.old.journal.connection).is_open
@@ -382,10 +386,10 @@ impl<S: Alter> Book<S> {
         })
     }
 
-    /// Whether the trail has all that a pass has seen, and each of its receipts. E19 where the
-    /// journal failed before, E21 where the pass has seen more than the trail has, with its length,
-    /// or where a receipt isn't the trail's entry at its index, with the least such index: looked
-    /// at in this order.
+    /// Checks whether the trail has everything that a pass has seen, and each of the pass's
+    /// receipts. The checks are, in this order: E19 if the journal failed before; E21 with the
+    /// trail's length if the pass has seen more than the trail has; and E21 with the least index of
+    /// a receipt that isn't the trail's entry at its index.
     pub fn look(&self, pass: &Pass, receipts: &[Receipt]) -> Result<(), Refusal>
         ensures ok { OnOk result (look_of self.now pass.now receipts.now ≡ None) }
         ensures refused { IfErr result
@@ -408,7 +412,7 @@ impl<S: Alter> Book<S> {
         }
     }
 
-    /// Ends the run, and hands its trail out.
+    /// Ends the run, and returns its trail.
     pub(crate) fn end_run(&mut self) -> Vec<Entry>
         ensures trail { result.items ≡ self.old.trail }
         ensures legal { IsLegal self.old }
@@ -420,14 +424,14 @@ impl<S: Alter> Book<S> {
         mem::replace(&mut self.trail, empty)
     }
 
-    /// How many facts of each node it has.
+    /// Returns the number of each node's facts that this node has.
     pub fn front(&self) -> Front
         ensures { result ≡ self.now.records.front }
     {
         self.replica.front()
     }
 
-    /// Gives the connection back, with the rows as they are.
+    /// Returns the connection, with the rows as they are.
     pub fn close(self) -> Connection<S>
         ensures connection { result ≡ self.journal.connection }
         ensures rows { Keeps S.Store self.me self.journal self.records }

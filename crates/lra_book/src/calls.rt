@@ -1,4 +1,4 @@
-// What a book is asked, and what it replies.
+// Calls to a book, and their replies.
 ghost use Rattle.std.specs.Prelude.{◌≡◌};
 ghost use Rattle.lra_book.specs.Next.{is_move};
 
@@ -10,36 +10,36 @@ use lra_http::Bytes;
 use lra_id::{LraId, LraStatus, MemberStatus};
 use lra_replica::Page;
 
-/// What a book is asked.
+/// A call to a book.
 #[derive(Debug, Drop)]
 pub enum Call {
-    /// Enter something.
+    /// Carries out a command.
     Command(Command),
-    /// Take what another node tells.
+    /// Takes what another node sends.
     Take(Delta),
-    /// Tell another node what it lacks, which asks by these bytes.
+    /// Gives another node what it lacks, in answer to a pull with this body.
     Pull(Bytes),
-    /// Show an LRA.
+    /// Shows an LRA.
     Status(LraId),
-    /// Show a participant.
+    /// Shows a participant.
     Member { id: LraId, member: u8 },
-    /// List the LRAs that are held beyond this one, or from the first on.
+    /// Lists the LRAs that are held beyond this one, or from the first on.
     Page(Option<LraId>),
-    /// Show all that is held of an LRA.
+    /// Shows all that is held of an LRA.
     Record(LraId),
-    /// List the LRAs that are held beyond this one, or from the first on, each with what is held of
-    /// it in short.
+    /// Lists the LRAs that are held beyond this one, or from the first on, each with a summary of
+    /// what is held of it.
     Survey(Option<LraId>),
-    /// Name the participants that are to be called.
+    /// Lists the participants that are to be called.
     Duties,
-    /// Cancel an LRA of this node whose deadline has passed.
+    /// Cancels an LRA of this node whose deadline has passed.
     Expire,
-    /// Purge the tree of a root, if the tree still shows this; else say what the root shows.
+    /// Purges the tree of a root if the tree still shows this. Otherwise shows the root.
     Sweep { root: LraId, seen: LraStatus },
 }
 
 impl Call {
-    /// Whether it moves a frame.
+    /// Whether the call moves a frame.
     pub fn is_move(&self) -> bool
         ensures { result ≡ is_move self.now }
     {
@@ -50,12 +50,12 @@ impl Call {
     }
 }
 
-/// What a book replies.
+/// A reply of a book.
 #[derive(Debug, Drop)]
 pub enum Reply {
     /// The reply to a command.
     Command(CommandReply),
-    /// What the other node told was taken.
+    /// What the other node sent was taken.
     Took,
     /// What the other node lacks.
     Gave(Delta),
@@ -67,19 +67,19 @@ pub enum Reply {
     Listed(Page),
     /// All that is held of an LRA.
     Held(Holding),
-    /// The LRAs that are held, each in short.
+    /// The LRAs that are held, each as a summary.
     Surveyed(Survey),
     /// The participants that are to be called.
     Due(Duties),
-    /// This LRA was cancelled since its deadline had passed.
+    /// This LRA was cancelled because its deadline had passed.
     Expired(LraId),
     /// No LRA of the node was overdue.
     Quiet,
-    /// A call that is no command was refused.
+    /// A call other than a command was refused.
     Refused(Refusal),
 }
 
-/// A call of a run, the moment at which it was made, and the reply.
+/// A call of a run, with the moment at which it was made and its reply.
 #[derive(Debug, Drop)]
 pub struct Entry {
     pub call: Call,
@@ -87,7 +87,7 @@ pub struct Entry {
     pub reply: Reply,
 }
 
-/// What a caller keeps of a call: where it stands in the trail, and what it says there.
+/// What a caller keeps of a call: its index in the trail, and its call and reply there.
 #[derive(Debug, Drop)]
 pub struct Receipt {
     pub index: u64,

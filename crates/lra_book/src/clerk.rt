@@ -1,4 +1,4 @@
-// Who makes calls, and keeps their receipts.
+// Clerks, which make calls and keep the receipts.
 ghost use Rattle.std.specs.Prelude.{◌≡◌, ◌<◌, [], IfErr, IsSome, OnOk, length};
 ghost use Rattle.lra_book.specs.Clerks.{BookCalled, DeskCalled, IsEnteredBy, IsRefusedBy, last_reply};
 
@@ -11,7 +11,7 @@ use std::alloc::Global;
 use std::marker::Model;
 use std::sync::Wait;
 
-/// Makes calls, and keeps their receipts.
+/// Makes calls and keeps their receipts.
 pub trait Clerk {
     ghost use Rattle.std.specs.Prelude.{◌≡◌, ◌<◌, ℕ, List, Result, Ok, Err, MatchResult, length};
     ghost use Rattle.lra_facts.specs.declared.refusal.Refusal.{Refusal as TheRefusal};
@@ -20,18 +20,18 @@ pub trait Clerk {
     ghost use Rattle.lra_book.specs.declared.calls.Reply.{Reply as TheReply};
     ghost use Rattle.lra_book.specs.Clerks.{IsOutcome, last_reply};
 
-    /// The receipts of its calls, in order.
+    /// The receipts of the clerk's calls, in order.
     ghost receipts: { Self → List TheReceipt };
 
-    /// What holds of the clerk before and after one call at a moment, of which this came: each
-    /// clerk says what makes its replies true. It is told of one call alone, so what meets it made
-    /// that call, once, and no other.
+    /// What is ensured of the clerk before and after one call at a moment with this result. Each
+    /// clerk defines here what makes its replies true. It speaks of exactly one call: whatever
+    /// satisfies it made that call once, and no other.
     ghost called: { (old new : Self) → TheCall → ℕ → Result TheReply TheRefusal → Type 0 };
 
-    /// Makes a call at a moment, and puts its receipt last on the list; or refuses it, E17 to E21,
-    /// and leaves the list. `reply` lends what came of it: a reply that the call itself lent told a
-    /// caller through this trait nothing, and no clause on it could say that the list grew by just
-    /// it.
+    /// Makes a call at a moment and puts its receipt at the end of the list, or refuses it with E17
+    /// to E21 and leaves the list unchanged. The result is lent by `reply`, not by this function. A
+    /// reply lent by this function would tell a caller through this trait nothing, and no clause on
+    /// it could say that the list grew by exactly that reply.
     fn call(&mut self, alloc: Global, call: Call, now: u64) -> Result<(), Refusal>
         ensures { MatchResult result (λ _. IsOutcome
             (receipts self.old) (receipts self.new) call (Ok (last_reply (receipts self.new)))
@@ -44,7 +44,7 @@ pub trait Clerk {
         ensures { result.now ≡ last_reply (receipts self.now) };
 }
 
-/// A book with the pass of its run, and the receipts of the calls that were made so.
+/// A book with the pass of its run, and the receipts of the calls that were made with it.
 #[derive(Drop)]
 pub struct BookClerk<S: Alter> {
     book: Book<S>,
@@ -68,7 +68,7 @@ impl<S: Alter> Model for BookClerk<S> {
 }
 
 impl<S: Alter> BookClerk<S> {
-    /// A clerk of a book whose run is on, with a pass of it, and no receipts.
+    /// Makes a clerk without receipts, from a book in a run and a pass of that run.
     pub fn new(alloc: Global, book: Book<S>, pass: Pass) -> BookClerk<S>
         requires { IsSome book.opening }
         ensures { result ≡ record { book = book; seen = pass; receipts = [] } }
@@ -80,7 +80,7 @@ impl<S: Alter> BookClerk<S> {
         }
     }
 
-    /// The book, the pass and the receipts.
+    /// Returns the book, the pass and the receipts.
     pub fn into_parts(self) -> (Book<S>, Pass, Vec<Receipt>)
         ensures { (result.0 ≡ self.book)
             × (result.1 ≡ self.seen) × (result.2.items ≡ self.receipts) }
@@ -93,8 +93,8 @@ impl<S: Alter> BookClerk<S> {
         (book, pass, receipts)
     }
 
-    /// Makes a call at a moment, and puts its receipt last on the list. There is room for it before
-    /// the call.
+    /// Makes a call at a moment, and puts its receipt at the end of the list. The room for the
+    /// receipt is made before the call.
     fn enter(&mut self, alloc: Global, call: Call, now: u64) -> Result<(), Refusal>
         ensures entered { OnOk result (IsEnteredBy self.old self.new call now) }
         ensures refused { IfErr result (λ refusal. IsRefusedBy self.old self.new call refusal) }
@@ -125,7 +125,7 @@ impl<S: Alter> Clerk for BookClerk<S> {
     }
 }
 
-/// A desk with a pass.
+/// A desk with a pass of it.
 #[derive(Drop)]
 pub struct DeskClerk<'a, J: Run, S: Alter, R: Wait> {
     rt: &'a R,
@@ -134,14 +134,14 @@ pub struct DeskClerk<'a, J: Run, S: Alter, R: Wait> {
 }
 
 impl<'a, J: Run, S: Alter, R: Wait> DeskClerk<'a, J, S, R> {
-    /// A clerk at a desk, with a pass of it.
+    /// Makes a clerk at a desk, with a pass of that desk.
     pub fn new(rt: &'a R, desk: &'a Desk<J, S>, pass: DeskPass<J>) -> DeskClerk<'a, J, S, R>
         ensures { result.pass ≡ pass }
     {
         DeskClerk { rt, desk, pass }
     }
 
-    /// Gives the pass back.
+    /// Returns the pass.
     pub fn into_pass(self) -> DeskPass<J>
         ensures { result ≡ self.entry.pass }
     {

@@ -1,5 +1,5 @@
-// What crosses threads: a book may be handed to another thread, and shared under a lock. The
-// functions do nothing: their bounds show it.
+// What may cross threads: a book may be moved to another thread, and shared under a lock. The
+// functions here do nothing, since their bounds show it.
 use crate::desk::{Desk, DeskPass, Locked, Run};
 use crate::{Book, Pass, Receipt};
 use sqlite::Alter;
@@ -10,42 +10,42 @@ fn needs_send<T: Send + Drop>(_value: T) {}
 
 fn needs_sync<T: Sync>(_value: &T) {}
 
-/// A book crosses where its connection does.
+/// Shows that a book may be sent to another thread if its connection may.
 pub fn book_crosses<S: Alter + Send + Drop>(book: Book<S>) {
     needs_send(book)
 }
 
-/// A book under a lock is shared.
+/// Shows that a book under a lock may be shared.
 pub fn locked_book_is_shared<S: Alter + Send + Drop>(book: &Mutex<Book<S>>) {
     needs_sync(book)
 }
 
-/// A pass crosses.
+/// Shows that a pass may be sent.
 pub fn pass_crosses(pass: Pass) {
     needs_send(pass)
 }
 
-/// Receipts cross.
+/// Shows that receipts may be sent.
 pub fn receipts_cross(receipts: Vec<Receipt>) {
     needs_send(receipts)
 }
 
-/// A share crosses.
+/// Shows that a share may be sent.
 pub fn share_crosses<J: Run + Send>(share: Share<J>) {
     needs_send(share)
 }
 
-/// What lies under the lock crosses.
+/// Shows that what lies under the lock may be sent.
 pub(crate) fn locked_crosses<J: Run + Send, S: Alter + Send + Drop>(locked: Locked<J, S>) {
     needs_send(locked)
 }
 
-/// A desk's pass crosses.
+/// Shows that a desk's pass may be sent.
 pub fn desk_pass_crosses<J: Run + Send>(pass: DeskPass<J>) {
     needs_send(pass)
 }
 
-/// A desk is shared.
+/// Shows that a desk may be shared.
 pub fn desk_is_shared<J: Run + Send + Sync, S: Alter + Send + Drop>(desk: &Desk<J, S>) {
     needs_sync(desk)
 }

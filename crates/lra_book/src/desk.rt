@@ -21,9 +21,9 @@ use std::marker::{Brand, Model};
 use std::sync::ledger::{Blank, Ledger, Share};
 use std::sync::{Mutex, Wait, ledger};
 
-/// Which run it is: its ledger, its node, the view that the node had when it began, and whether it
-/// is known that the journal was opened on a store of its own. Whoever says so has to prove it. No
-/// clause of the server needs it, so only `test_calls` does.
+/// Identifies a run: its ledger, its node, the view that the node had when the run began, and
+/// whether it is known that the journal was opened on a store of its own. An implementation that
+/// claims the last must prove it. No clause of the server needs it, so only `test_calls` claims it.
 pub trait Run: Ledger {
     ghost use Rattle.lra_book.specs.Desks.{Opening};
 
@@ -37,7 +37,7 @@ impl Run for Brand {
         { node = 0; view = record { front = []; purges = []; records = [] }; own = false } };
 }
 
-/// What a thread keeps of its calls: what it has seen, a share of the run's ledger, and its
+/// What a thread keeps of its calls: what it has seen, its share of the run's ledger, and its
 /// receipts.
 #[derive(Drop)]
 pub struct DeskPass<J: Run> {
@@ -59,7 +59,7 @@ impl<J: Run> Model for DeskPass<J> {
         × (p.share.amount ≡ length p.receipts.items) × AreSeen p.pass p.receipts.items };
 }
 
-/// What lies under the lock: the book, whose run is on, and the count of its calls.
+/// What lies under the lock: the book, whose run is going on, and the count of its calls.
 #[derive(Drop)]
 pub(crate) struct Locked<J: Run, S: Alter> {
     book: Book<S>,
@@ -84,9 +84,9 @@ impl<J: Run, S: Alter> Model for Locked<J, S> {
         × (IsTrue J.opening.own → IsOwn (state S.Store l.book.journal.opened)) };
 }
 
-// Why a call is refused is exact here alone, under the lock. No pass knows how many calls the
-// others made, so a desk that is full at a hundred receipts would be proved: tests meet E19 to E21
-// by their cause.
+// Only here, under the lock, do clauses say exactly why a call is refused. Outside, a pass doesn't
+// know how many calls the others made, so a desk that claims to be full at a hundred receipts could
+// be proved as well. Tests therefore provoke E19 to E21 by their causes.
 impl<J: Run, S: Alter> Locked<J, S> {
     fn enter(
         &mut self,
@@ -111,7 +111,7 @@ impl<J: Run, S: Alter> Locked<J, S> {
             IsTrue (state S.Store self.new.journal.connection).is_open → (db : Trees) →
             (state S.Store self.new.journal.connection).may_leave db →
             Stands self.new.me db self.new.records }
-        // What a look finds, else why the book refuses the call.
+        // The refusal is what a look finds, or else the book's refusal of the call.
         ensures refused { IfErr result
             (IsRefusedAt self.old pass.old receipts.now self.new call) }
     {
@@ -213,7 +213,7 @@ fn is_named_once<J: Run>(passes: &[DeskPass<J>], index: u64, entry: &Entry) -> b
     count == 1
 }
 
-/// The first entry that is not named once.
+/// Returns the first entry that isn't named exactly once.
 fn strange_entry<J: Run>(trail: &[Entry], passes: &[DeskPass<J>]) -> Option<u64>
     ensures { result ≡ first_strange 0 trail.now (flat_map (λ p. p.receipts) passes.now) }
 {
@@ -248,7 +248,7 @@ fn stray<J: Run>(trail: &[Entry], passes: &[DeskPass<J>]) -> Option<u64>
     None
 }
 
-/// Whether the receipts are the trail's entries, each once.
+/// Checks whether the receipts are the trail's entries, each once.
 fn compare<J: Run>(trail: &[Entry], passes: &[DeskPass<J>]) -> Result<(), Refusal>
     ensures ok { OnOk result (strange_of trail.now (flat_map (λ p. p.receipts) passes.now) ≡ None) }
     ensures err { IfErr result
@@ -264,14 +264,14 @@ fn compare<J: Run>(trail: &[Entry], passes: &[DeskPass<J>]) -> Result<(), Refusa
 }
 
 impl<J: Run> DeskPass<J> {
-    /// The receipts of its calls, in order.
+    /// Returns the receipts of this pass's calls, in order.
     pub fn receipts(&self) -> &[Receipt]
         ensures { result.now ≡ self.now.receipts }
     {
         self.receipts.as_slice()
     }
 
-    /// The receipt of its last call.
+    /// Returns the receipt of this pass's last call.
     pub fn last(&self) -> &Receipt
         requires { 0 < length self.now.receipts }
         ensures { slice_get self.now.receipts (length self.now.receipts - 1) ≡ Some result.now }
@@ -281,7 +281,8 @@ impl<J: Run> DeskPass<J> {
 }
 
 impl<J: Run, S: Alter> Desk<J, S> {
-    /// A desk over a book whose run has begun, and a pass for each worker. E17 hands the book back.
+    /// Makes a desk over a book whose run has begun, and a pass for each worker. E17 returns the
+    /// book.
     pub fn new(
         alloc: Global,
         book: Book<S>,
@@ -308,8 +309,8 @@ impl<J: Run, S: Alter> Desk<J, S> {
         }
     }
 
-    /// Makes a call at a moment, and puts its receipt last on the pass's list. There is room for it
-    /// before the lock is taken. E17 to E21 leave the pass.
+    /// Makes a call at a moment, and puts its receipt at the end of the pass's list. The room for
+    /// the receipt is made before the lock is taken. E17 to E21 leave the pass unchanged.
     pub fn call<R: Wait>(
         &self,
         alloc: Global,
@@ -344,14 +345,14 @@ impl<J: Run, S: Alter> Desk<J, S> {
         Ok(())
     }
 
-    /// Ends the run, with all passes that `new` gave. It gives the book and the trail, and says
-    /// whether the receipts are the trail's entries, each once: E22 where they differ.
+    /// Ends the run, given all passes that `new` returned. Returns the book, the trail, and whether
+    /// the receipts are the trail's entries, each once: E22 at the place where they differ.
     pub fn close(self, passes: Vec<DeskPass<J>>) -> (Book<S>, Vec<Entry>, Result<(), Refusal>)
         requires all { (vec_len passes ≡ J.parts) × (1 ≤ vec_len passes) }
         ensures legal { LeadsTo J.opening.node J.opening.view result.1.items result.0.records }
         ensures counted { length result.1.items ≡ sum_by (λ p. p.share) passes.items }
         ensures ended { (result.0.opening ≡ None) × (result.0.me ≡ J.opening.node) }
-        // The journal's rows stand for the records, where it was opened on a store of its own.
+        // The journal's rows stand for the records, if it was opened on a store of its own.
         ensures rows { Keeps S.Store result.0.me result.0.journal result.0.records }
         ensures own { IsTrue J.opening.own → IsOwn (state S.Store result.0.journal.opened) }
         ensures ok { OnOk result.2

@@ -1,4 +1,4 @@
-// All that is held of one LRA, and what is held of many in short.
+// All that is held of one LRA, and summaries of what is held of many.
 ghost use Rattle.std.specs.Prelude.{◌≡◌, ◌≤◌, IfErr, IfOk, length};
 ghost use Rattle.std.specs.Option.{option_copied};
 ghost use Rattle.lra_facts.specs.declared.refusal.Refusal.TheVariants.{NoMemory};
@@ -19,7 +19,8 @@ use lra_replica::{Replica, Row};
 use std::alloc::{AllocError, Global};
 use std::marker::Model;
 
-/// What each member of an LRA shows, in order of their numbers; none where it is no participant.
+/// The status of each member of an LRA, in order of their numbers; `None` for a member that is no
+/// participant.
 #[derive(Debug, Drop)]
 pub struct MemberStatuses {
     list: Vec<Option<MemberStatus>>,
@@ -35,7 +36,7 @@ impl Model for MemberStatuses {
 }
 
 impl MemberStatuses {
-    /// They in order.
+    /// Returns the statuses in order.
     pub fn as_slice(&self) -> &[Option<MemberStatus>]
         ensures { result.now ≡ self.now }
     {
@@ -43,35 +44,35 @@ impl MemberStatuses {
     }
 }
 
-/// All that a node holds of an LRA, and what it shows of it.
+/// All that a node holds of an LRA, and the LRA's status.
 #[derive(Debug, Drop)]
 pub struct Holding {
     pub id: LraId,
     pub status: LraStatus,
-    /// The record of it: its parent, its deadline, its decision and its members.
+    /// The LRA's record: its parent, its deadline, its decision and its members.
     pub record: Record,
-    /// What each of its members shows.
+    /// The status of each of its members.
     pub members: MemberStatuses,
-    /// What this node would reply to its purge now.
+    /// What this node would reply to a purge of the LRA now.
     pub purge: CommandReply,
 }
 
-/// What is held of an LRA, in short.
+/// A summary of what is held of an LRA.
 #[derive(Clone, Copy, Debug, PartialEq, Eq)]
 pub struct Summary {
     pub id: LraId,
     pub status: LraStatus,
-    /// What its tree shows: the LRA with all that is nested in it.
+    /// What the LRA's tree shows: the LRA with everything nested in it.
     pub tree: LraStatus,
-    /// The number of its parent at the same home; none where it is a root.
+    /// The number of its parent at the same home; `None` for a root.
     pub parent: Option<u64>,
-    /// How many member numbers were given.
+    /// The number of member numbers that were given.
     pub members: usize,
-    /// Milliseconds since 1970; 0 for none.
+    /// The deadline in milliseconds since 1970; 0 for none.
     pub deadline: u64,
 }
 
-/// The next LRAs that are held, each in short, and whether more follow.
+/// The next LRAs that are held, each as a summary, and whether more follow.
 #[derive(Debug, Drop)]
 pub struct Survey {
     rows: Vec<Summary>,
@@ -87,14 +88,14 @@ impl Model for Survey {
 }
 
 impl Survey {
-    /// Its rows, in order of their homes and numbers.
+    /// Returns the rows, in order of their homes and numbers.
     pub fn rows(&self) -> &[Summary]
         ensures { result.now ≡ self.now.rows }
     {
         &self.rows
     }
 
-    /// Whether more follow.
+    /// Whether more LRAs follow.
     pub fn more(&self) -> bool
         ensures { result ≡ self.now.more }
     {
@@ -143,7 +144,7 @@ impl Clone for Survey {
     }
 }
 
-/// The record of an LRA.
+/// Returns the record of an LRA.
 fn record_of(replica: &Replica, id: LraId) -> Option<&Record>
     ensures { option_copied result ≡ record_at (view_of replica.now) id }
 {
@@ -162,7 +163,7 @@ fn status_of(replica: &Replica, id: LraId, member: u8) -> Option<MemberStatus>
     }
 }
 
-/// What each of the members of an LRA shows.
+/// Returns the status of each member of an LRA.
 fn statuses(
     alloc: Global,
     replica: &Replica,
@@ -179,7 +180,7 @@ fn statuses(
     Ok(MemberStatuses { list })
 }
 
-/// What is held of an LRA that shows this, and whose purge would be replied so.
+/// Returns what is held of an LRA that has this status, and whose purge would get this reply.
 fn holding_of(
     alloc: Global,
     replica: &Replica,
@@ -205,7 +206,8 @@ fn holding_of(
     }))
 }
 
-/// All that is held of an LRA, or why nothing is. Only memory can be wanting.
+/// Returns all that is held of an LRA, or the refusal as the reply. It fails only if memory runs
+/// out.
 pub fn hold(alloc: Global, replica: &mut Replica, me: NodeId, id: LraId) -> Result<Reply, Refusal>
     requires { me ≤ length replica.old.front }
     ensures view { view_of replica.new ≡ view_of replica.old }
@@ -250,7 +252,8 @@ fn all_in_short(alloc: Global, replica: &Replica, rows: &[Row]) -> Result<Vec<Su
     Ok(list)
 }
 
-/// The next LRAs that are held beyond one, each in short. Only memory can be wanting.
+/// Returns the next LRAs that are held beyond one, each as a summary. It fails only if memory runs
+/// out.
 pub fn survey_beyond(
     alloc: Global,
     replica: &Replica,

@@ -1,5 +1,5 @@
-//! The book: a node's replica and its journal, and the trail of a run's calls with their replies;
-//! and the desk, at which threads share a book.
+//! The book, which is a node's replica and its journal with the trail of a run's calls and their
+//! replies, and the desk, at which threads share a book.
 #![tactic(auto)]
 
 mod book;

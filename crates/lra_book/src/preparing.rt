@@ -1,4 +1,4 @@
-// What a call comes to, and carrying it out.
+// Preparing a call, and carrying it out.
 ghost use Rattle.std.specs.Prelude.{◌≡◌, ◌≤◌, ◌<◌, ℕ, Err, IfErr, IfOk, IfSome, IsTrue, OnErr, OnOk, length};
 ghost use Rattle.lra_facts.specs.declared.refusal.Refusal.TheVariants.{NoMemory};
 ghost use Rattle.lra_facts.specs.declared.command.Command.TheVariants.{Decide, Purge};
@@ -32,14 +32,14 @@ use lra_replica::{Patch, Prepared, Replica};
 use sqlite::Alter;
 use std::alloc::Global;
 
-/// What a call comes to: the reply, and what it changes, if anything.
+/// A prepared call: its reply, and what it changes, if anything.
 #[derive(Drop)]
 pub struct PreparedCall {
     pub reply: Reply,
     pub patch: Option<Patch>,
 }
 
-/// Prepares a command. Only memory can be wanting: a refusal is its reply.
+/// Prepares a command. It fails only if memory runs out, since a refusal is its reply.
 pub fn act(
     alloc: Global,
     replica: &mut Replica,
@@ -92,7 +92,7 @@ fn take(alloc: Global, replica: &mut Replica, delta: Delta) -> Result<PreparedCa
     }
 }
 
-/// What a node gives another that asks by these bytes.
+/// Returns what a node gives another that asks with these bytes.
 fn give(alloc: Global, replica: &Replica, body: &Bytes) -> Result<Reply, Refusal>
     ensures reply { IfOk result (λ reply. reply
         ≡ pull_reply (view_of replica.now) (asked (length replica.now.front) body.now)) }
@@ -144,7 +144,7 @@ fn duties(alloc: Global, replica: &Replica, me: NodeId) -> Result<Reply, Refusal
     Ok(Reply::Due(duties))
 }
 
-/// The reply where an LRA was to be cancelled since its deadline had passed.
+/// Returns the reply after an attempt to cancel an LRA whose deadline had passed.
 fn reply_of_expiry(id: LraId, reply: CommandReply) -> Reply
     ensures { result ≡ expired id reply }
 {
@@ -233,8 +233,8 @@ fn answer(reply: Result<Reply, Refusal>) -> Result<PreparedCall, Refusal>
     Ok(PreparedCall { reply, patch: None })
 }
 
-/// Prepares a call of a node at a moment: its reply, and what it changes, if anything. Only memory
-/// can be wanting.
+/// Prepares a node's call at a moment: its reply, and what it changes, if anything. It fails only
+/// if memory runs out.
 pub fn prepare(
     alloc: Global,
     replica: &mut Replica,
@@ -290,7 +290,7 @@ fn store<S: Alter>(
         OnOk result (Keeps S.Store me journal.new (with_patch patch.now view)) }
     ensures kept { (me : ℕ) (view : View) →
         Keeps S.Store me journal.old view → OnErr result (Keeps S.Store me journal.new view) }
-    // A stop leaves what it left before, or rows for the patched view.
+    // A stop leaves what it left before, or rows of the patched view.
     ensures crash { Survives
         (state S.Store journal.old.connection) (state S.Store journal.new.connection)
         (λ db. IsJournal (state S.Store journal.old.connection) →
@@ -308,8 +308,7 @@ fn store<S: Alter>(
     }
 }
 
-/// Stores a patch, if there is one, and then makes its changes. Where it isn't stored, nothing is
-/// changed.
+/// Stores a patch, if there is one, and then applies it. If it can't be stored, nothing is changed.
 pub fn carry_out<S: Alter>(
     alloc: Global,
     journal: &mut Journal<S>,
@@ -320,16 +319,16 @@ pub fn carry_out<S: Alter>(
     ensures view { OnOk result (view_of replica.new ≡ with_patch patch (view_of replica.old)) }
     ensures same { OnErr result (view_of replica.new ≡ view_of replica.old) }
     ensures nodes { length replica.new.front ≡ length replica.old.front }
-    // The journal's rows go with the replica, whatever comes.
+    // Whatever the result, the journal's rows correspond to the replica.
     ensures keeps { (me : ℕ) → Keeps S.Store me journal.old (view_of replica.old) →
         Keeps S.Store me journal.new (view_of replica.new) }
-    // A stop leaves what it left before, or rows for what the replica holds then.
+    // A stop leaves what it left before, or rows for what the replica holds afterwards.
     ensures crash { Survives
         (state S.Store journal.old.connection) (state S.Store journal.new.connection)
         (λ db. IsJournal (state S.Store journal.old.connection) → (me : ℕ) →
         Stands me (state S.Store journal.old.connection).now.trees (view_of replica.old) →
         Stands me db (with_patch patch (view_of replica.old))) }
-    // What is changed was stored, and the connection is open.
+    // What changed was stored, and the connection is open.
     ensures open { HasCleanDisk (state S.Store journal.new.connection) →
         OnOk result (IfSome patch (λ _. IsTrue (state S.Store journal.old.connection).is_open
         × IsTrue (state S.Store journal.new.connection).is_open)) }

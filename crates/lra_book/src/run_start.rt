@@ -7,8 +7,8 @@ ghost use Rattle.lra_replica.specs.Replicas.{view_of};
 use lra_replica::Replica;
 use std::marker::Model;
 
-/// What a replica held when its run began, for clauses alone. It has no bytes. With std's
-/// `Snapshot` in its place a book isn't found to cross threads.
+/// What a replica held when its run began, which only clauses read. It has no bytes. With std's
+/// `Snapshot` in its place, a book isn't found to cross threads.
 #[derive(Drop)]
 pub struct RunStart {
     pub ghost held: { View },
@@ -24,7 +24,7 @@ unsafe impl Send for RunStart {}
 unsafe impl Sync for RunStart {}
 
 impl RunStart {
-    /// What this replica holds.
+    /// Takes what this replica holds.
     pub fn of(replica: &Replica) -> RunStart
         ensures { result.held ≡ view_of replica.now }
     {

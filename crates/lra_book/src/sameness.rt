@@ -1,4 +1,4 @@
-// Whether calls and replies are the same.
+// Whether two calls or two replies are the same.
 ghost use Rattle.std.specs.Prelude.{◌≡◌};
 ghost use Rattle.lra_book.specs.Sameness.{same_call, same_duties, same_holding, same_page, same_reply, same_survey};
 

@@ -9,7 +9,7 @@ use lra_facts::Refusal;
 use lra_id::{LraId, LraStatus};
 use lra_replica::Replica;
 
-/// What the tree of an LRA shows, if the LRA is held.
+/// Returns what the tree of an LRA shows, if the LRA is held.
 fn tree_held(replica: &Replica, id: LraId) -> Result<LraStatus, Refusal>
     ensures { let a = view_of replica.now in
         result ≡ answered (is_some (record_at a id)) (tree_on a id) }
@@ -20,7 +20,7 @@ fn tree_held(replica: &Replica, id: LraId) -> Result<LraStatus, Refusal>
     }
 }
 
-/// What the tree of an LRA shows, or why nothing is shown of it.
+/// Returns what the tree of an LRA shows, or the refusal to show it.
 pub fn tree_shown(replica: &Replica, id: LraId) -> Result<LraStatus, Refusal>
     ensures { result ≡ tree_shown_on (view_of replica.now) id }
 {
@@ -30,7 +30,8 @@ pub fn tree_shown(replica: &Replica, id: LraId) -> Result<LraStatus, Refusal>
     tree_held(replica, id)
 }
 
-/// What the tree of an LRA shows. One that isn't held is Active, as nobody decided it.
+/// Returns what the tree of an LRA shows. If the LRA isn't held, that is Active, because nothing is
+/// decided of it.
 pub fn tree_of(replica: &Replica, id: LraId) -> LraStatus
     ensures { result ≡ tree_on (view_of replica.now) id }
 {
