@@ -34,7 +34,8 @@ pub record Machine : Type 0 where
 pub record IsMachine (m : Machine) : Type 0 where
   pub fronts : (place : ℕ) (kept : ReplicaState) → slice_get m.replicas place ≡ Some kept → length kept.front ≡ length m.replicas
 
--- It stands for the state: each node's replica is the view of what the node holds, and the bytes encode the frames
+-- The machine stands for the state: each node's replica is the view of what the node holds, and the
+-- bytes encode the frames
 pub record IsWorldOf (s : State) (m : Machine) : Type 0 where
   pub world : IsWorld s
   pub nodes : length m.replicas ≡ nodes_of s
@@ -44,7 +45,7 @@ pub record IsWorldOf (s : State) (m : Machine) : Type 0 where
   pub frames : (place : ℕ) (frame : SentFrame) (bytes : List ℕ) → slice_get s.sent place ≡ Some frame →
       slice_get m.sent place ≡ Some bytes → IsEncoded s.history frame bytes
 
--- one replica is changed so, and nothing else
+-- the node's replica is changed as So says, and nothing else is changed
 pub record IsChanged (old new : Machine) (node : ℕ) (So : ReplicaState → ReplicaState → Type 0) : Type 0 where
   pub was : ReplicaState
   pub now : ReplicaState
@@ -55,20 +56,20 @@ pub record IsChanged (old new : Machine) (node : ℕ) (So : ReplicaState → Rep
 
 -- Commands
 
--- only a command that is accepted changes a view: then it stands for the set with the command's fact
+-- only an accepted command changes a view, which then stands for the set with the command's fact
 abbrev pub Becomes : Judgement → List Fact → View → ℕ → Command → View → Type 0
 Becomes (Denied r) S old me c new = new ≡ old
 Becomes AlreadyKnown S old me c new = new ≡ old
 Becomes Accepted S old me c new =
     (new.front ≡ raised old.front me) × ((T : List Fact) → IsMore (next_fact S old.front me c) S T → StandsFor T new)
 
--- what a node makes of a command, over a set that its view stands for
+-- how a node handles a command, over a set that its view stands for
 abbrev pub IsActed : List Fact → View → ℕ → Command → CommandReply → View → Type 0
 IsActed S old me c reply new = (reply ≡ reply_of S old.front me c) × Becomes (judge S old.front me c) S old me c new
 
 -- Frames
 
--- In a lawful history a frame comes to the view of one closed set from one that held another
+-- In a lawful history a frame comes to the view of one closed set from a node that held another
 pub record IsFrom (h : History) (v w : List ℕ) (old : View) (frame : Frame) : Type 0 where
   pub lawful : IsLawful h
   pub receiver : IsClosed h v
@@ -77,16 +78,16 @@ pub record IsFrom (h : History) (v w : List ℕ) (old : View) (frame : Frame) : 
   pub told : IsFrame (facts h w) frame.base frame
   pub counts : frame.front ≡ w
 
--- From whatever history it comes: it is taken where the view counts its base, and the view is that of the union then; else
--- the gap is told and nothing changes
+-- This holds whatever the history is. The frame is taken if the view counts its base, and the view
+-- is then that of the union. Otherwise the reply is a gap, and nothing changes
 abbrev pub TakesFrame : View → Frame → Reply → View → Type 0
 TakesFrame old frame reply new =
     (h : History) (v w : List ℕ) → IsFrom h v w old frame →
     (IsBelow frame.base v → (reply ≡ Took) × IsViewOf h (join_fronts v w) new)
     × ((IsBelow frame.base v → ⊥) → (reply ≡ Refused (Gap v)) × (new ≡ old))
 
--- of the bytes of a frame so many come: more than there are, or some that encode no frame, or some that encode one, in
--- whichever version
+-- this many bytes of a frame arrive: more than there are, or some that encode no frame, or some
+-- that encode one, in any version
 abbrev pub TakesBytes : View → List ℕ → ℕ → Reply → View → Type 0
 TakesBytes old bytes kept reply new =
     ((length bytes < kept) × (reply ≡ Refused BadText) × (new ≡ old))
@@ -95,7 +96,7 @@ TakesBytes old bytes kept reply new =
 
 -- What happens
 
--- the event may happen in state s, with this reply, and the world stands for the state after it
+-- the event may happen in state s with this reply, and the world stands for the state after it
 abbrev pub Happens : State → Event → Reply → Machine → Type 0
 Happens s event reply m = (t : State) × Steps s event reply t × IsWorldOf t m
 
@@ -107,28 +108,29 @@ bytes_of = map (λ (bytes : Vec ℕ Global). bytes.items)
 abbrev pub IsExpired : State → ℕ → Id → Reply → Machine → Type 0
 IsExpired s node l reply m = (t : State) × Expires s node (Some l) reply t × IsWorldOf t m
 
--- A step from state s: the event happens, and the world stands for the state after it; and the headline holds of that state
--- and of `first`, a state long before or s itself
+-- A step from state s: the event happens, and the world stands for the state after it. The headline
+-- holds from `first`, which is an earlier state or s itself, to that state
 pub record StepsTo (first s : State) (event : Event) (reply : Reply) (m : Machine) : Type 0 where
   pub state : State
   pub steps : Steps s event reply state
   pub stands : IsWorldOf state m
   pub converges : Converges first state
 
--- A run: the events happen from state s, and lead to a state that the world stands for; and the headline holds from the one
--- to the other
+-- A run: the events happen from state s and lead to a state that the world stands for. The headline
+-- holds from s to that state
 pub record LeadsTo (s : State) (events : List Event) (replies : List Reply) (m : Machine) : Type 0 where
   pub state : State
   pub runs : Runs s events replies state
   pub stands : IsWorldOf state m
   pub converges : Converges s state
 
--- A run that stopped at an event: those before it happened and were replied so, and neither it nor a later one has happened
+-- A run that stopped at an event: the events before it happened with these replies, and neither it
+-- nor a later one has happened
 pub record StopsIn (s : State) (events : List Event) (replies : List Reply) (m : Machine) : Type 0 where
   pub left : length replies < length events
   pub leads : LeadsTo s (take (length replies) events) replies m
 
--- so many replicas, which are views of no facts of these nodes
+-- this many replicas, each of which is a view of no facts of these nodes
 pub record AreEmpty (nodes count : ℕ) (replicas : List ReplicaState) : Type 0 where
   pub many : length replicas ≡ count
   pub views : (place : ℕ) (kept : ReplicaState) → slice_get replicas place ≡ Some kept → view_of kept ≡ empty_view nodes

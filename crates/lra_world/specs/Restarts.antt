@@ -1,4 +1,4 @@
--- What a restart goes by: the frame since nothing has all that a view says.
+-- How a restart works: the frame since nothing has everything that a view says.
 use Rattle.std.specs.Prelude.{◌≡◌, Ok, length, replicate}
 use Rattle.lra_history.specs.Views.{View, empty_view}
 use Rattle.lra_delta.specs.Frames.{Frame, frame_of}
@@ -10,7 +10,8 @@ use Rattle.lra_delta.specs.TakenFrames.{IsTaken}
 abbrev pub whole_of : View → Frame
 whole_of view = frame_of view (replicate (length view.front) 0)
 
--- The frame is read from its encoding as itself again; and the view of no facts that takes it becomes this view, and no other
+-- The frame is read from its encoding as the same frame again, and the view of no facts that takes
+-- it becomes this view, and no other
 pub record ComesBack (view : View) : Type 0 where
   pub read : frame_in (encoding (whole_of view)) ≡ Ok (whole_of view)
   pub taken : IsTaken (empty_view (length view.front)) (whole_of view) view

@@ -1,5 +1,6 @@
--- The world: what all nodes entered, what each of them counts, and the frames that were sent; what may happen next, and
--- what is replied. Of records it speaks in two places: where a frame needs version 2, and where one comes, whose bytes encode records.
+-- The world: what all nodes entered, what each of them counts, and the frames that were sent; which
+-- events may happen next, and their replies. It speaks of records in only two places: where a frame
+-- needs version 2, and where a frame arrives, whose bytes encode records.
 use Rattle.std.specs.Prelude.{◌≡◌, ◌⊎◌, ◌≤◌, ◌<◌, ◌+◌, ◌-◌, ◌==◌, ◌&&◌, ℕ, Bool, true, false, Option, Some, None, List, [], ◌∷◌, ◌++◌, Err, get_or, if◌then◌else◌, length, nat_le, replicate, slice_get, slice_set, take}
 use Rattle.lra_id.specs.Fronts.{IsBelow, join_fronts}
 use Rattle.lra_id.specs.Ids.{Id}
@@ -32,7 +33,8 @@ use Rattle.lra_world.specs.declared.event.Reply.TheVariants.{Answered, Expired, 
 
 -- States
 
--- a frame that was sent: the version in which it is written, the base that it counts from, and the front of its sender then
+-- a frame that was sent: the version in which it is written, the base since which it counts, and
+-- its sender's front at that time
 pub record SentFrame : Type 0 where
   pub version : Version
   pub base : List ℕ
@@ -58,11 +60,11 @@ front_of s node = get_or s.fronts (node - 1) []
 abbrev pub set_of : State → ℕ → List Fact
 set_of s node = facts s.history (front_of s node)
 
--- frames are numbered from 1
+-- the frame with this number, where frames are numbered from 1
 abbrev pub frame_at : State → ℕ → Option SentFrame
 frame_at s number = if number == 0 then None else slice_get s.sent (number - 1)
 
--- nothing was entered and nothing was sent
+-- the state in which nothing was entered and nothing was sent
 abbrev pub start : ℕ → State
 start nodes = record { history = replicate nodes []; fronts = replicate nodes (replicate nodes 0); sent = [] }
 
@@ -72,7 +74,8 @@ pub record IsSent (h : History) (frame : SentFrame) : Type 0 where
   pub below : IsBelow frame.base frame.front
   pub nodes : length frame.base ≡ length h
 
--- What every state keeps. The history is lawful, and each node holds a closed set with all that the node entered
+-- The invariant of all states: the history is lawful, and each node holds a closed set with
+-- everything that the node entered
 pub record IsWorld (s : State) : Type 0 where
   pub lawful : IsLawful s.history
   pub nodes : length s.fronts ≡ nodes_of s
@@ -81,7 +84,7 @@ pub record IsWorld (s : State) : Type 0 where
 
 -- Frames as bytes
 
--- the view of what a node holds that has this front
+-- the view of what a node with this front holds
 pub record IsViewOf (h : History) (front : List ℕ) (view : View) : Type 0 where
   pub stands : StandsFor (facts h front) view
   pub counts : view.front ≡ front
@@ -95,20 +98,21 @@ pub record IsEncoded (h : History) (frame : SentFrame) (bytes : List ℕ) : Type
 
 -- What happens
 
--- nothing but a reply
+-- nothing happens except for a reply
 abbrev pub Stays : State → Reply → Reply → State → Type 0
 Stays s is reply t = (reply ≡ is) × (t ≡ s)
 
--- the node's front is another
+-- the state in which the node has this front
 abbrev pub with_front : State → ℕ → List ℕ → State
 with_front s node front = record s { fronts = slice_set s.fronts (node - 1) front }
 
--- one more frame was sent: what the node holds since a base
+-- the state with one more frame sent: what the node holds since a base
 abbrev pub with_frame : State → Version → ℕ → List ℕ → State
 with_frame s version node base =
     record s { sent = s.sent ++ record { version = version; base = base; front = front_of s node } ∷ [] }
 
--- what a command asks is the node's next entry, with the node's front, which counts it from then on
+-- the state in which the command is the node's next entry, with the node's front, which counts that
+-- entry from then on
 abbrev pub with_command : State → ℕ → Command → State
 with_command s node c =
     record {
@@ -117,33 +121,34 @@ with_command s node c =
       sent = s.sent;
     }
 
--- only a command that is accepted enters something
+-- only an accepted command enters something
 abbrev pub if_taken : Judgement → (before after : State) → State
 if_taken Accepted before after = after
 if_taken _ before after = before
 
--- What a node makes of a command
+-- A node's reply to a command
 abbrev pub reply_at : State → ℕ → Command → CommandReply
 reply_at s node c = reply_of (set_of s node) (front_of s node) node c
 
--- and the state after it
+-- the state after a command
 abbrev pub after_command : State → ℕ → Command → State
 after_command s node c = if_taken (judge (set_of s node) (front_of s node) node c) s (with_command s node c)
 
--- a node is asked to enter something
+-- a node is asked to carry out a command
 abbrev pub Acts : State → ℕ → Command → Reply → State → Type 0
 Acts s node c reply t = (reply ≡ Answered (reply_at s node c)) × (t ≡ after_command s node c)
 
--- the frame needs a later version: version 1 knows no link for the end
+-- the frame needs a later version: version 1 has no link for the end
 abbrev pub needs_later : Version → Frame → Bool
 needs_later One frame = needs_two frame
 needs_later Two frame = false
 
--- the frame of what the node holds since the base needs one
+-- the frame of what the node holds since the base needs a later version
 abbrev pub NeedsLater : State → ℕ → List ℕ → Version → Type 0
 NeedsLater s node base version = (view : View) × IsViewOf s.history (front_of s node) view × (needs_later version (frame_of view base) ≡ true)
 
--- a node sends a frame in a version that tells it: its base counts as many nodes, and no more than the node does
+-- a node sends a frame in a version that can express it; its base counts as many nodes, and no more
+-- than the node does
 abbrev pub Sends : State → ℕ → List ℕ → Version → Reply → State → Type 0
 Sends s node base version reply t =
     ((length base ≡ nodes_of s → ⊥) × Stays s (Refused BadText) reply t)
@@ -152,8 +157,9 @@ Sends s node base version reply t =
     ⊎ ((length base ≡ nodes_of s) × IsBelow base (front_of s node) × (NeedsLater s node base version → ⊥) × (reply ≡ Sent (length s.sent + 1))
     × (t ≡ with_frame s version node base))
 
--- Of a frame that is encoded by these bytes so many come to a node: more than there are, or fewer, or all. All are taken
--- where the node counts the base: then it holds what it held and what the sender held
+-- The first bytes, this many, of a frame that is encoded by these arrive at a node: more than there
+-- are, or fewer, or all. If they are all there and the node counts the base, the frame is taken,
+-- and the node then holds what it held and what the sender held
 abbrev pub Takes : State → ℕ → SentFrame → List ℕ → ℕ → Reply → State → Type 0
 Takes s node frame bytes kept reply t =
     ((length bytes < kept) × Stays s (Refused BadText) reply t)
@@ -162,12 +168,12 @@ Takes s node frame bytes kept reply t =
     ⊎ ((kept ≡ length bytes) × IsBelow frame.base (front_of s node) × (reply ≡ Took)
     × (t ≡ with_front s node (join_fronts (front_of s node) frame.front)))
 
--- a frame comes to a node
+-- a frame arrives at a node
 abbrev pub Comes : State → ℕ → Option SentFrame → ℕ → Reply → State → Type 0
 Comes s node None kept reply t = Stays s (Refused BadText) reply t
 Comes s node (Some frame) kept reply t = (bytes : List ℕ) × IsEncoded s.history frame bytes × Takes s node frame bytes kept reply t
 
--- an LRA was cancelled since its deadline had passed, or that was refused
+-- an LRA was cancelled because its deadline had passed, or that was refused
 abbrev pub expired : Id → CommandReply → Reply
 expired l (NotEntered r) = Refused r
 expired l _ = Expired l
@@ -177,16 +183,16 @@ abbrev pub Expires : State → ℕ → Option Id → Reply → State → Type 0
 Expires s node None reply t = Stays s Quiet reply t
 Expires s node (Some l) reply t = (reply ≡ expired l (reply_at s node (Decide l Cancel))) × (t ≡ after_command s node (Decide l Cancel))
 
--- of the LRAs of the node that are overdue, the one with the least number is cancelled
+-- the LRA with the least number among the node's overdue LRAs is cancelled
 abbrev pub Ticks : State → ℕ → ℕ → Reply → State → Type 0
 Ticks s node now reply t = (found : Option Id) × IsLeastOverdue (set_of s node) node now found × Expires s node found reply t
 
--- where there is such a node, this happens, and else nothing
+-- if the node exists, this happens, otherwise nothing does
 abbrev pub IfNode : Bool → State → Type 0 → Reply → State → Type 0
 IfNode true s happens reply t = happens
 IfNode false s happens reply t = Stays s (Refused BadText) reply t
 
--- One step: in state s the event is replied so, and leaves state t
+-- One step: in state s the event gets this reply, and leads to state t
 abbrev pub Steps : State → Event → Reply → State → Type 0
 Steps s (Act node c) reply t = IfNode (is_node s node) s (Acts s node c reply t) reply t
 Steps s (Send node base version) reply t = IfNode (is_node s node) s (Sends s node base version reply t) reply t
@@ -194,7 +200,7 @@ Steps s (Deliver number node kept) reply t = IfNode (is_node s node) s (Comes s 
 Steps s (Restart node) reply t = IfNode (is_node s node) s (Stays s Restarted reply t) reply t
 Steps s (Tick node now) reply t = IfNode (is_node s node) s (Ticks s node now reply t) reply t
 
--- A run: from state s the events are replied so, one after another, and leave state t
+-- A run: from state s the events get these replies, one after another, and lead to state t
 abbrev pub Runs : State → List Event → List Reply → State → Type 0
 Runs s [] [] t = t ≡ s
 Runs s (event ∷ events) (reply ∷ replies) t = (mid : State) × Steps s event reply mid × Runs mid events replies t

@@ -1,31 +1,31 @@
-// What may happen in a world, and what is replied to it.
+// Events of a world, and the replies to them.
 use lra_delta::Version;
 use lra_facts::{Command, CommandReply, Refusal};
 use lra_id::{Front, LraId, NodeId};
 use std::alloc::AllocError;
 
-/// What may happen next.
+/// An event of a world.
 #[derive(Debug, Drop)]
 pub enum Event {
-    /// A node is asked to enter something.
+    /// A node is asked to carry out a command.
     Act {
         node: NodeId,
         command: Command,
     },
-    /// A node sends what it has since a base, in the given version of frames.
+    /// A node sends what it has since a base, in this version of frames.
     Send {
         node: NodeId,
         base: Front,
         version: Version,
     },
-    /// The first so many bytes of a frame that was sent come to a node. Frames are numbered from 1
-    /// as they are sent.
+    /// The first bytes of a frame that was sent, this many, arrive at a node. Frames are numbered
+    /// from 1 in the order in which they are sent.
     Deliver {
         frame: usize,
         node: NodeId,
         kept: usize,
     },
-    /// A node starts again, with what it holds.
+    /// A node restarts with what it holds.
     Restart {
         node: NodeId,
     },
@@ -70,7 +70,7 @@ impl Clone for Event {
     }
 }
 
-/// What is replied to an event.
+/// The reply to an event.
 #[derive(Clone, Copy, Debug, PartialEq, Eq)]
 pub enum Reply {
     /// The reply to a command.
@@ -79,20 +79,20 @@ pub enum Reply {
     Sent(usize),
     /// The frame was taken.
     Took,
-    /// The node started again.
+    /// The node restarted.
     Restarted,
-    /// This LRA was cancelled since its deadline had passed.
+    /// This LRA was cancelled because its deadline had passed.
     Expired(LraId),
     /// No LRA of the node was overdue.
     Quiet,
-    /// Nothing happened.
+    /// The event was refused, and nothing happened.
     Refused(Refusal),
 }
 
-/// A run stopped at an event, since memory was wanting: the events before it were replied so, and
-/// it has not happened.
+/// A run that stopped at an event because memory ran out. The events before it got these replies,
+/// and the event itself has not happened.
 #[derive(Debug, Drop)]
 pub struct Stopped {
-    /// The replies to the events before it.
+    /// The replies to the events before the stop.
     pub replies: Vec<Reply>,
 }

@@ -1,4 +1,4 @@
-// What one node makes of an event.
+// How one node handles an event.
 ghost use Rattle.std.specs.Prelude.{◌≡◌, ◌⊎◌, ◌≤◌, ℕ, List, true, false, IfErr, IfOk, IfSome, OnErr, length};
 ghost use Rattle.lra_history.specs.Histories.{History, IsClosed, IsLawful, facts};
 ghost use Rattle.lra_replica.specs.Replicas.{Fits, view_of};
@@ -34,7 +34,7 @@ fn enter(replica: &mut Replica, prepared: Prepared) -> CommandReply
     reply
 }
 
-/// A node enters what a command asks, or refuses it. Running out of memory enters nothing.
+/// Lets a node carry out a command or refuse it. If memory runs out, nothing is entered.
 pub fn act(
     alloc: Global,
     replica: &mut Replica,
@@ -58,7 +58,7 @@ pub fn act(
     }
 }
 
-/// A node takes a frame, or refuses it. Running out of memory takes nothing.
+/// Lets a node take a frame or refuse it. If memory runs out, nothing is taken.
 pub fn take_frame(alloc: Global, replica: &mut Replica, delta: Delta) -> Result<Reply, AllocError>
     ensures nodes { length replica.new.front ≡ length replica.old.front }
     ensures taken { IfOk result
@@ -79,7 +79,8 @@ pub fn take_frame(alloc: Global, replica: &mut Replica, delta: Delta) -> Result<
     }
 }
 
-/// Of the bytes of a frame so many come to a node, which takes what they encode, or refuses it.
+/// Delivers the first bytes of a frame, this many, to a node, which takes what they encode or
+/// refuses it.
 pub fn take_bytes(
     alloc: Global,
     replica: &mut Replica,
@@ -105,7 +106,7 @@ pub fn take_bytes(
     }
 }
 
-/// The bytes that encode what a node tells, in a version.
+/// Encodes what a node sends, in a version.
 fn encode_as(alloc: Global, told: &Delta, version: Version) -> Result<Vec<u8>, Refusal>
     ensures text { IfOk result (λ bytes. (needs_later version told.now ≡ false)
         × (bytes.items ≡ encoding_as version told.now)) }
@@ -119,8 +120,8 @@ fn encode_as(alloc: Global, told: &Delta, version: Version) -> Result<Vec<u8>, R
     }
 }
 
-/// The bytes of what a node tells another that has the facts of a base. E15 where the node doesn't
-/// count the base, and then E23 where the version can't tell it.
+/// Returns the bytes that a node sends another that has the facts counted by a base. E15 if the
+/// node doesn't count the base, and then E23 if the version can't express the frame.
 pub fn bytes_since(
     alloc: Global,
     replica: &Replica,
@@ -143,8 +144,8 @@ pub fn bytes_since(
     encode_as(alloc, &told, version)
 }
 
-/// A node starts again from the bytes of its own frame since the front of zeros, which has all that
-/// it holds. Should these be refused, which in a lawful history they aren't, it stays as it is.
+/// Restarts a node from the bytes of its own frame since the front of zeros, which has all that it
+/// holds. If these are refused, which never happens in a lawful history, the node stays as it is.
 pub fn restart(alloc: Global, replica: &mut Replica) -> Result<Reply, AllocError>
     ensures nodes { length replica.new.front ≡ length replica.old.front }
     ensures same { (h : History) (v : List ℕ) → IsLawful h →

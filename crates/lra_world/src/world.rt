@@ -44,7 +44,7 @@ impl Model for World {
 }
 
 impl World {
-    /// A world of so many nodes, 1 to 8, that has no facts. Another count of nodes is E1.
+    /// Makes a world of 1 to 8 nodes without facts. Any other number of nodes is E1.
     pub fn new(alloc: Global, nodes: usize) -> Result<World, Refusal>
         ensures start { IfOk result (λ world. IsWorldOf (start nodes) world) }
         ensures refused { result ≡ Err BadText ↔ ((nodes < 1) ⊎ (MAX_NODES < nodes)) }
@@ -62,14 +62,14 @@ impl World {
         }
     }
 
-    /// How many nodes there are.
+    /// Returns the number of nodes.
     pub fn nodes(&self) -> usize
         ensures { result ≡ length self.now.replicas }
     {
         self.replicas.len()
     }
 
-    /// How many bytes a frame has. None was sent of another number.
+    /// Returns the number of bytes of a frame, or `None` if no frame with this number was sent.
     pub fn frame_len(&self, frame: usize) -> Option<usize>
         ensures { result ≡
             (if frame == 0 then None else option_map length (slice_get self.now.sent (frame - 1))) }
@@ -81,7 +81,7 @@ impl World {
         Some(bytes.len())
     }
 
-    /// What a node holds.
+    /// Returns what a node holds.
     pub fn replica(&self, node: NodeId) -> &Replica
         requires { node ≤ length self.now.replicas }
         ensures view { (s : State) →
@@ -92,7 +92,7 @@ impl World {
         &self.replicas[place]
     }
 
-    /// What a node shows of an LRA. E2 where the node's front doesn't count the id, E3 where it
+    /// Returns what a node shows of an LRA. E2 if the node's front doesn't count the id, E3 if it
     /// does and the LRA is not held.
     pub fn status(&self, node: NodeId, id: LraId) -> Result<LraStatus, Refusal>
         requires { node ≤ length self.now.replicas }
@@ -102,8 +102,8 @@ impl World {
         self.replica(node).status(id)
     }
 
-    /// What a node shows of a participant of an LRA. The same, and E5 where the LRA has no such
-    /// participant.
+    /// Returns what a node shows of a participant of an LRA. Errors as for `status`, and E5 if the
+    /// LRA has no such participant.
     pub fn member(&self, node: NodeId, id: LraId, member: u8) -> Result<MemberStatus, Refusal>
         requires { node ≤ length self.now.replicas }
         ensures { (s : State) → IsWorldOf s self.now → result ≡ member_at s node id member }
@@ -142,7 +142,7 @@ impl World {
         act(alloc, &mut self.replicas[place], node, command)
     }
 
-    /// A node starts again.
+    /// Restarts a node, which exists.
     fn restart_at(&mut self, alloc: Global, node: NodeId) -> Result<Reply, AllocError>
         requires { node ≤ length self.old.replicas }
         ensures same { IfOk result
@@ -156,7 +156,7 @@ impl World {
         restart(alloc, &mut self.replicas[place])
     }
 
-    /// Of a frame that was sent so many bytes come to a node.
+    /// Delivers the first bytes, this many, of a frame that was sent to a node that exists.
     fn deliver_at(
         &mut self,
         alloc: Global,
@@ -197,7 +197,7 @@ impl World {
         Ok(Reply::Answered(reply))
     }
 
-    /// A frame comes to a node, or the first so many bytes of it.
+    /// Delivers a frame, or its first bytes, this many, to a node.
     fn deliver(
         &mut self,
         alloc: Global,
@@ -215,7 +215,7 @@ impl World {
         self.deliver_at(alloc, frame - 1, node, kept)
     }
 
-    /// A node starts again.
+    /// Restarts a node.
     fn restart(&mut self, alloc: Global, node: NodeId) -> Result<Reply, AllocError>
         ensures step { (s : State) →
             IsWorldOf s self.old → IfOk result (λ reply. Happens s (Restart node) reply self.new) }
@@ -227,11 +227,11 @@ impl World {
         self.restart_at(alloc, node)
     }
 
-    /// One event happens. Running out of memory leaves the world as it was.
+    /// Lets one event happen. If memory runs out, the world is left as it was.
     pub fn step(&mut self, alloc: Global, event: Event) -> Result<Reply, AllocError>
         ensures step { (s : State) →
             IsWorldOf s self.old → IfOk result (λ reply. Happens s event reply self.new) }
-        // And the headline holds from whatever state led here.
+        // The headline holds from any state that led here.
         ensures headline { (first s : State) → Leads first s → IsWorldOf s self.old →
             IfOk result (λ reply. StepsTo first s event reply self.new) }
         ensures err { (s : State) → IsWorldOf s self.old → OnErr result (IsWorldOf s self.new) }
@@ -239,7 +239,7 @@ impl World {
         self.happen(alloc, event)
     }
 
-    /// `step` without the headline, so that this is shown once.
+    /// Does what `step` does, without the headline, so that this is shown once.
     fn happen(&mut self, alloc: Global, event: Event) -> Result<Reply, AllocError>
         ensures step { (s : State) →
             IsWorldOf s self.old → IfOk result (λ reply. Happens s event reply self.new) }
@@ -258,9 +258,9 @@ impl World {
         }
     }
 
-    /// Many events happen, one after another. Running out of memory stops the run at an event that
-    /// has not happened, and gives the replies to those before it. Each event is copied, since
-    /// `step` takes a command's links for its own.
+    /// Lets many events happen, one after another. If memory runs out, the run stops at an event
+    /// that has not happened, and the error has the replies to the events before it. Each event is
+    /// copied, since `step` takes ownership of a command's links.
     pub fn run(&mut self, alloc: Global, events: &[Event]) -> Result<Vec<Reply>, Stopped>
         ensures headline { (s : State) → IsWorldOf s self.old →
             IfOk result (λ replies. LeadsTo s events.now replies.items self.new) }
@@ -276,8 +276,8 @@ impl World {
         Ok(replies)
     }
 
-    /// One event happens, and its reply is put at the end, in room that was made before. Running
-    /// out of memory puts nothing, and the event has not happened.
+    /// Lets one event happen, and puts its reply at the end, in room that was made before. If
+    /// memory runs out, nothing is put, and the event has not happened.
     fn step_on(
         &mut self,
         alloc: Global,
@@ -324,7 +324,7 @@ impl World {
         Ok(reply_of_expiry(id, reply))
     }
 
-    /// A node sends what it has since a base, in the given version of frames.
+    /// Lets a node send what it has since a base, in this version of frames.
     fn send(
         &mut self,
         alloc: Global,
@@ -350,7 +350,7 @@ impl World {
         }
     }
 
-    /// The bytes of the frame of a node since a base.
+    /// Returns the bytes of a node's frame since a base.
     fn frame_since(
         &self,
         alloc: Global,
@@ -408,8 +408,8 @@ fn reply_of_expiry(id: LraId, reply: CommandReply) -> Reply
     }
 }
 
-/// Puts an item at the end, where there is room for it. It is generic, since of a `Reply` the
-/// toolchain's borrow checker can't build this.
+/// Puts an item at the end, where there must be room for it. It is generic because the toolchain's
+/// borrow checker can't build it for a `Reply`.
 fn keep<T: Drop>(items: &mut Vec<T>, item: Result<T, AllocError>) -> Result<(), AllocError>
     requires { length items.old.items < vec_capacity items.old }
     ensures ok { IfOk item (λ one. IsOk result × (items.new.items ≡ items.old.items ++ one ∷ [])) }
