@@ -8,20 +8,20 @@ use Rattle.lra_callback.specs.CallDuties.{IsDuty}
 use Rattle.lra_world.specs.Worlds.{State, set_of}
 use Rattle.lra_progress.specs.Calls.{asks_to_act}
 
--- the node is to make this call now, to the participant m of l
+-- the node is to make this call to the participant m of l now
 pub record IsCallTo (s : State) (node : ℕ) (l : Id) (m : ℕ) (call : Duty) : Type 0 where
   pub due : IsDuty node (set_of s node) call
   pub lra : call.id ≡ l
   pub member : call.member ≡ m
 
--- it is to ask that participant for the act: to do it, or how far it is with that
+-- the node is to ask that participant for the act: to do it, or how far it is with it
 pub record IsAskedFor (s : State) (node : ℕ) (l : Id) (m : ℕ) (act : Act) : Type 0 where
   pub call : Duty
   pub due : IsCallTo s node l m call
   pub asks : asks_to_act call.kind ≡ true
   pub acts : call.act ≡ act
 
--- it is to make a call of this kind to that participant
+-- the node is to make a call of this kind to that participant
 pub record IsCalledTo (s : State) (node : ℕ) (l : Id) (m : ℕ) (kind : Kind) : Type 0 where
   pub call : Duty
   pub due : IsCallTo s node l m call

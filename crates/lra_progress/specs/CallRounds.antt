@@ -1,4 +1,5 @@
--- Rounds of calls: in each, everyone under an LRA who is to act at its start is called, and gives an end.
+-- Rounds of calls: in each, every participant under an LRA that is to act at the start is called,
+-- and gives an end.
 use Rattle.std.specs.Prelude.{◌≡◌, ◌&&◌, ℕ, Bool, false, List, [], ◌∷◌}
 use Rattle.lra_id.specs.Ids.{Id}
 use Rattle.lra_facts.specs.declared.fact.Fact.{Fact}
@@ -15,11 +16,11 @@ use Rattle.lra_progress.specs.Calls.{IsActUnder, count_under, is_open_at}
 abbrev pub is_to_compensate : List Fact → Id → ℕ → Links → Bool
 is_to_compensate S d m links = is_open_at S d m links && wants_cancel (want S d)
 
--- how many participants under l are still to compensate
+-- how many participants under l must still compensate
 abbrev pub compensations_left : List Fact → Id → ℕ
 compensations_left S l = count_under (is_to_compensate S) S l
 
--- of each call to act that was to be made under l by S, T has heard the end: Done or Failed
+-- for each call to act that was due under l by S, T has heard the end: Done or Failed
 abbrev pub HearsAllEnds : List Fact → List Fact → Id → Type 0
 HearsAllEnds S T l = (call : Duty) → IsActUnder S l call → is_pending (heard T call.id call.member call.act) ≡ false
 
@@ -30,7 +31,7 @@ pub record IsCallRound (node : ℕ) (l : Id) (s t : State) : Type 0 where
   pub runs : Runs s events replies t
   pub hears : HearsAllEnds (set_of s node) (set_of t node) l
 
--- and so on, from each state to the next
+-- one round after another, from each state to the next
 abbrev pub GoInRounds : ℕ → Id → State → List State → Type 0
 GoInRounds node l s [] = Unit {0}
 GoInRounds node l s (t ∷ ts) = IsCallRound node l s t × GoInRounds node l t ts

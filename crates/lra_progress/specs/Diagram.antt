@@ -1,4 +1,4 @@
--- The diagram of an LRA: the standard's statuses and edges, and the edges that are this project's.
+-- The diagram of an LRA: the standard's statuses and edges, and the edges that this project adds.
 use Rattle.std.specs.Prelude.{◌≡◌, ◌&&◌, ◌||◌, ℕ, Bool, true, false, List, [], ◌∷◌, Ok}
 use Rattle.lra_id.specs.Ids.{Id}
 use Rattle.lra_id.specs.declared.status.LraStatus.{LraStatus}
@@ -24,14 +24,14 @@ is_late_failure Closed FailedToClose = true
 is_late_failure Cancelled FailedToCancel = true
 is_late_failure _ _ = false
 
--- what was closed is cancelled, with an LRA in which it is nested
+-- an LRA that was closed is cancelled together with an LRA above it
 abbrev pub is_cancelled_above : LraStatus → LraStatus → Bool
 is_cancelled_above Closing Cancelling = true
 is_cancelled_above Closed Cancelling = true
 is_cancelled_above FailedToClose Cancelling = true
 is_cancelled_above _ _ = false
 
--- the edges of an LRA in which nothing above it has a hand
+-- the edges of an LRA that nothing above it affects
 abbrev pub is_own_edge : LraStatus → LraStatus → Bool
 is_own_edge a b = is_standard a b || is_late_failure a b
 
@@ -44,7 +44,7 @@ abbrev pub LeadsBy : (LraStatus → LraStatus → Bool) → LraStatus → List L
 LeadsBy edge a [] b = a ≡ b
 LeadsBy edge a (c ∷ cs) b = (edge a c ≡ true) × LeadsBy edge c cs b
 
--- a path of such edges, of any length, also none
+-- a path of such edges, of any length, including none
 abbrev pub IsPath : (LraStatus → LraStatus → Bool) → LraStatus → LraStatus → Type 0
 IsPath edge a b = (steps : List LraStatus) × LeadsBy edge a steps b
 
@@ -62,11 +62,12 @@ is_to_cancel Cancelled = true
 is_to_cancel FailedToCancel = true
 is_to_cancel _ = false
 
--- the two statuses are of two branches
+-- the two statuses are on different branches
 abbrev pub are_parted : LraStatus → LraStatus → Bool
 are_parted a b = (is_to_close a && is_to_cancel b) || (is_to_cancel a && is_to_close b)
 
--- events lead from the start to where a node shows the first status of an LRA, and one event more to where it shows the second
+-- events lead from the start to a state in which a node shows the first status of an LRA, and one
+-- more event to a state in which it shows the second
 pub record IsCrossed (a b : LraStatus) : Type 0 where
   pub nodes : ℕ
   pub node : ℕ

@@ -1,4 +1,4 @@
--- Ends in the world: what is heard from state to state, and what answers alone bring about.
+-- Ends in the world: what is heard from state to state, and what answers alone lead to.
 use Rattle.std.specs.Prelude.{◌≡◌, ◌≤◌, ℕ, List, [], ◌∷◌, length, true}
 use Rattle.lra_id.specs.Ids.{Id}
 use Rattle.lra_id.specs.declared.outcome.Act.{Act}
@@ -16,7 +16,8 @@ use Rattle.lra_world.specs.declared.event.Reply.{Reply}
 use Rattle.lra_world.specs.Worlds.{Runs, State, front_of, set_of, with_command}
 use Rattle.lra_progress.specs.Calls.{HearsAnAnswer, HearsAnEnd, IsCallUnder}
 
--- events lead from s to t; at the node l wants the same in both, and the node heard the end of a call under l meanwhile
+-- events lead from s to t; at the node l wants the same in both, and meanwhile the node heard the
+-- end of a call under l
 pub record GoesOn (node : ℕ) (l : Id) (s t : State) : Type 0 where
   pub events : List Event
   pub replies : List Reply
@@ -24,12 +25,12 @@ pub record GoesOn (node : ℕ) (l : Id) (s t : State) : Type 0 where
   pub wants : want (set_of t node) l ≡ want (set_of s node) l
   pub hears : HearsAnEnd (set_of s node) (set_of t node) l
 
--- and so on, from each state to the next
+-- the same from each state to the next
 abbrev pub GoOn : ℕ → Id → State → List State → Type 0
 GoOn node l s [] = Unit {0}
 GoOn node l s (t ∷ ts) = GoesOn node l s t × GoOn node l t ts
 
--- events lead from s to t, and the node heard an answer to a call under the root meanwhile
+-- events lead from s to t, and meanwhile the node heard an answer to a call under the root
 pub record GetsAnswered (node : ℕ) (root : Id) (s t : State) : Type 0 where
   pub events : List Event
   pub replies : List Reply
@@ -40,18 +41,19 @@ abbrev pub GetAnswered : ℕ → Id → State → List State → Type 0
 GetAnswered node root s [] = Unit {0}
 GetAnswered node root s (t ∷ ts) = GetsAnswered node root s t × GetAnswered node root t ts
 
--- the last of them
+-- the last of these states
 abbrev pub last_state : State → List State → State
 last_state s [] = s
 last_state s (t ∷ ts) = last_state t ts
 
--- what a node enters for the best answer to a call: that the act is done, or that the participant was told
+-- the command by which a node enters the best answer to a call: the act is done, or the participant
+-- was told
 abbrev pub answer_to : Kind → Id → ℕ → Act → Command
 answer_to Forget l m act = Forgot l m
 answer_to After l m act = Told l m
 answer_to _ l m act = Report l m act Done
 
--- the node accepts the command, which is the answer to a call that is to be made under l
+-- the node accepts the command, which is the answer to a call that is due under l
 pub record IsAnswer (s : State) (node : ℕ) (l : Id) (c : Command) : Type 0 where
   pub call : Duty
   pub due : IsCallUnder (set_of s node) l call
@@ -63,7 +65,8 @@ abbrev pub AreAnswers : ℕ → Id → State → List Event → Type 0
 AreAnswers node l s [] = Unit {0}
 AreAnswers node l s (event ∷ events) = (c : Command) × (event ≡ Enter node c) × IsAnswer s node l c × AreAnswers node l (with_command s node c) events
 
--- at most so many answers to calls under one LRA, entered at the node, and nothing else, lead to a state in which l has ended there
+-- at most this many answers to calls under one LRA, entered at the node, and nothing else, lead to
+-- a state in which l has ended there
 pub record CanEnd (s : State) (node : ℕ) (l above : Id) (most : ℕ) : Type 0 where
   pub events : List Event
   pub replies : List Reply
@@ -73,7 +76,8 @@ pub record CanEnd (s : State) (node : ℕ) (l above : Id) (most : ℕ) : Type 0 
   pub few : length events ≤ most
   pub ended : is_ended (set_of state node) l ≡ true
 
--- at most so many answers to calls under the root, and nothing else, lead to a state in which the node accepts its purge
+-- at most this many answers to calls under the root, and nothing else, lead to a state in which the
+-- node accepts the root's purge
 pub record CanPurge (s : State) (node : ℕ) (root : Id) (most : ℕ) : Type 0 where
   pub events : List Event
   pub replies : List Reply

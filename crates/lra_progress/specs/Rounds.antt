@@ -1,4 +1,4 @@
--- A round in the world: each node takes a frame of each other.
+-- A round in the world: each node takes a frame of each other node.
 use Rattle.std.specs.Prelude.{◌≡◌, ◌⊎◌, ℕ, Bool, true, false, List, ◌∷◌, length, map, replicate}
 use Rattle.lra_history.specs.Histories.{Entry, History}
 use Rattle.lra_history.specs.Views.{View}
@@ -26,7 +26,7 @@ pub record HearsOf (from to : ℕ) (events : List Event) (replies : List Reply) 
   pub sends : Occurs (Send from base version) (Sent number) events replies
   pub takes : Occurs (Deliver number to kept) Took events replies
 
--- in these events each node sends a frame to each other, and that takes it
+-- in these events each node sends a frame to each other node, which takes it
 abbrev pub IsRound : State → List Event → List Reply → Type 0
 IsRound s events replies = (from to : ℕ) → IsNode s from → IsNode s to → (from ≡ to → ⊥) → HearsOf from to events replies
 
@@ -34,7 +34,7 @@ IsRound s events replies = (from to : ℕ) → IsNode s from → IsNode s to →
 abbrev pub CanTell : State → Type 0
 CanTell s = (node : ℕ) → IsNode s node → (view : View) × IsViewOf s.history (front_of s node) view × IsTyped (frame_of view (replicate (nodes_of s) 0))
 
--- such a round leads on from here, and enters nothing
+-- such a round leads on from this state, and enters nothing
 pub record HasRound (s : State) : Type 0 where
   pub state : State
   pub events : List Event
@@ -49,6 +49,6 @@ may_enter (Act node c) = true
 may_enter (Tick node now) = true
 may_enter _ = false
 
--- the front that counts all that was ever entered
+-- the front that counts everything that was ever entered
 abbrev pub all_counted : History → List ℕ
 all_counted h = map (λ (entries : List Entry). length entries) h

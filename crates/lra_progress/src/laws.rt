@@ -1,5 +1,5 @@
-//! Laws of progress: each function does nothing, and its contract is the law. None speaks of time,
-//! and none supposes that anything is fair.
+//! Laws of progress. Each function does nothing, and its contract is the law. No law mentions time,
+//! and none assumes fairness.
 pub mod asked;
 pub mod bound;
 pub mod diagram;
@@ -35,14 +35,16 @@ ghost use Rattle.lra_progress.specs.Calls.{HearsAnEnd, IsActUnder, IsCallUnder, 
 ghost use Rattle.lra_progress.specs.Ends.{CanEnd, CanPurge, GetAnswered, GetsAnswered, GoOn, GoesOn, last_state};
 ghost use Rattle.lra_progress.specs.Rounds.{CanTell, HasRound, HearsOf, IsRound, all_counted, may_enter};
 
-/// Nothing decided is stuck. Where an LRA shows Closing or Cancelling by a set, a participant is to
-/// be called by that set, to complete or to compensate. It is one of this LRA or of one nested in
-/// it; or, where an LRA above it is cancelled, one under the topmost of these. That is so of every
-/// set that a node may hold, and at each node in each state of the world. The home alone calls, by
-/// its own set. So where its home shows it so, the home's list has that call now (`home`): by the
-/// clause `next` of `lra_callback::pick` that list is `duties_of` of the replica's view. Another
-/// node may show Closing of what has ended at its home, until a frame of that comes. And the
-/// participant is one that `complete_duties` or `next_compensations` lists for that view.
+/// Nothing decided is stuck. If an LRA shows Closing or Cancelling by a set, then by that set some
+/// participant is to be called to complete or to compensate. That is a participant of this LRA or
+/// of one nested in it. If an LRA above it is cancelled, it is one under the topmost cancelled LRA.
+///
+/// This holds for every set that a node may hold, and at each node in each state of the world. Only
+/// the home makes calls, and it goes by its own set. So if the home shows the LRA so, its list has
+/// such a call now (`home`). By the clause `next` of `lra_callback::pick` that list is `duties_of`
+/// of the replica's view, and the participant is one that `complete_duties` or `next_compensations`
+/// lists for that view. Another node may show Closing for an LRA that has ended at its home, until
+/// a frame brings that news.
 pub fn nothing_is_stuck()
     ensures set { (S : List Fact) (l : Id) → IsSettled S → IsUnderWay S l →
         (call : Duty) × IsActUnder S (saga_of S l) call }
@@ -61,8 +63,8 @@ pub fn nothing_is_stuck()
         In (due_of call) (completions_of view home) ⊎ In (due_of call) (compensations_of view home) }
 {}
 
-/// An LRA waits for participants under itself alone, if it is a root or is to close. Wherever it
-/// waits: where that LRA has ended, it has ended too.
+/// A root, or an LRA that is to close, waits only for participants under itself. Wherever an LRA
+/// waits: once the LRA there has ended, it has ended too.
 pub fn an_lra_ends_with_its_saga()
     ensures root { (S : List Fact) (l : Id) →
         IsSettled S → is_root S l ≡ true → saga_of S l ≡ l }
@@ -72,8 +74,8 @@ pub fn an_lra_ends_with_its_saga()
         IsSettled S → is_ended S (saga_of S l) ≡ true → is_ended S l ≡ true }
 {}
 
-/// The answer is taken. The end of such a call, done or failed, is accepted as a report at every
-/// node that holds the set, unless the node has given its last number.
+/// The answer is taken. If such a call ended as done or failed, the report of that is accepted at
+/// every node that holds the set, unless the node has given its last number.
 pub fn an_end_is_accepted()
     ensures { (S : List Fact) (v : List ℕ) (node : ℕ)
         (l : Id) (call : Duty) (outcome : TheOutcome) →
@@ -82,9 +84,9 @@ pub fn an_end_is_accepted()
         judge S v node (Report call.id call.member call.act outcome) ≡ Accepted }
 {}
 
-/// Open participants only get fewer. While an LRA wants the same, there are never more participants
-/// under it that are not final, whatever else is entered. Each end that is heard of a call under it
-/// leaves fewer, and it has ended just where there are none.
+/// The number of open participants never rises. While an LRA wants the same, there are never more
+/// participants under it that are not final, whatever else is entered. Each end that is heard of a
+/// call under it leaves fewer, and the LRA has ended exactly when there are none.
 pub fn open_participants_only_get_fewer()
     ensures stays { (h : History) (v w : List ℕ) (l : Id) (verdict : TheVerdict) →
         IsLawful h → IsClosed h v → IsClosed h w → IsBelow v w →
@@ -98,9 +100,9 @@ pub fn open_participants_only_get_fewer()
         (is_ended S l ≡ true) ↔ (open_under S l ≡ 0) }
 {}
 
-/// So at a node of the world, whatever comes there and elsewhere. While an LRA wants the same at
-/// the node, at most as many ends are heard of calls under it as participants are open there. After
-/// that many it has ended.
+/// The same holds at a node of the world, whatever happens there and elsewhere. While an LRA wants
+/// the same at the node, the number of ends heard of calls under it is at most the number of
+/// participants open there. After that many ends the LRA has ended.
 pub fn after_so_many_ends_it_has_ended()
     ensures stays { (s t : State) (events : List Event) (replies : List Reply)
         (node : ℕ) (l : Id) (verdict : TheVerdict) →
@@ -116,11 +118,11 @@ pub fn after_so_many_ends_it_has_ended()
         is_ended (set_of (last_state s ts) node) l ≡ true }
 {}
 
-/// What is under way can be ended. From each state of the world answers alone lead to where the LRA
-/// has ended, each to a call that is due then, entered at one node that holds it. There are at most
-/// as many as participants are open where it waits, and the node needs so many numbers. And from
-/// each such state one end more can be heard (`on`), so that `after_so_many_ends_it_has_ended`
-/// speaks of something.
+/// What is under way can be ended. From each state of the world, answers alone lead to a state in
+/// which the LRA has ended. Each of them answers a call that is due then, and is entered at one
+/// node that holds the LRA. There are at most as many as participants are open where it waits, and
+/// the node needs that many numbers. From each such state one more end can be heard (`on`), so
+/// `after_so_many_ends_it_has_ended` is not empty.
 pub fn what_is_under_way_can_be_ended()
     ensures ends { (s : State) (node : ℕ) (l : Id) →
         IsWorld s → IsNode s node → IsUnderWay (set_of s node) l →
@@ -134,9 +136,9 @@ pub fn what_is_under_way_can_be_ended()
         (t : State) × GoesOn node (saga_of (set_of s node) l) s t }
 {}
 
-/// A decided tree goes on until it is purged: somebody in it is to be called, or its root can be
-/// purged, unless the home has given its last number. In what has ended nobody is called to
-/// complete or to compensate.
+/// A decided tree goes on until it is purged: either a participant in it is to be called, or its
+/// root can be purged, unless the home has given its last number. In an LRA that has ended no
+/// participant is called to complete or to compensate.
 pub fn a_tree_goes_on_until_it_is_purged()
     ensures on { (S : List Fact) (v : List ℕ) (root : Id) → IsSettled S → IsCounted S v →
         is_held S root ≡ true → is_root S root ≡ true → is_some (want S root) ≡ true →
@@ -147,10 +149,10 @@ pub fn a_tree_goes_on_until_it_is_purged()
         IsSettled S → is_ended S l ≡ true → IsActUnder S l call → ⊥ }
 {}
 
-/// A decided tree waits for so many answers at most. Whatever happens at a node and elsewhere, no
-/// event adds to the answers that are left in the tree, and each answer to a call in it leaves
-/// fewer. Where none is left, nobody in it is to be called. So after that many at the latest the
-/// root can be purged, if it was not.
+/// A decided tree waits for a limited number of answers. Whatever happens at a node and elsewhere,
+/// no event adds to the answers that are left in the tree, and each answer to a call in it leaves
+/// fewer. When none is left, no participant in it is to be called. So after that many answers at
+/// the latest the root can be purged, if it was not purged already.
 pub fn a_decided_tree_waits_for_so_many_answers()
     ensures stays { (s t : State) (events : List Event) (replies : List Reply)
         (node : ℕ) (root : Id) (verdict : TheVerdict) →
@@ -166,10 +168,10 @@ pub fn a_decided_tree_waits_for_so_many_answers()
         IsSettled S → answers_left S l ≡ 0 → IsCallUnder S l call → ⊥ }
 {}
 
-/// A decided tree can be purged. From each state of the world answers alone lead to where the
-/// root's home accepts the purge, each to a call that is due then, entered at that home. There are
-/// at most as many as are left, and the home needs so many numbers. Wherever a call is due, its
-/// answer can be heard (`on`).
+/// A decided tree can be purged. From each state of the world, answers alone lead to a state in
+/// which the root's home accepts the purge. Each of them answers a call that is due then, and is
+/// entered at that home. There are at most as many as are left, and the home needs that many
+/// numbers. Whenever a call is due, its answer can be heard (`on`).
 pub fn a_decided_tree_can_be_purged()
     ensures purged { (s : State) (root : Id) (verdict : TheVerdict) → IsWorld s → IsNode s root.home →
         is_held (set_of s root.home) root ≡ true → is_root (set_of s root.home) root ≡ true →
@@ -181,18 +183,19 @@ pub fn a_decided_tree_can_be_purged()
         count (front_of s node) node < last_number → (t : State) × GetsAnswered node root s t }
 {}
 
-/// A frame brings all that its sender had. Whatever happens meanwhile, a node that takes a frame
-/// which another sends in these events counts at the end all that the other counted at the start.
+/// A frame brings everything that its sender had. If a node takes a frame that another sends during
+/// these events, it counts at the end everything that the sender counted at the start, whatever
+/// else happens.
 pub fn a_frame_brings_what_its_sender_had()
     ensures { (s t : State) (events : List Event) (replies : List Reply) (from to : ℕ) →
         IsWorld s → Runs s events replies t → IsNode s from → IsNode s to →
         HearsOf from to events replies → IsBelow (front_of s from) (front_of t to) }
 {}
 
-/// One round makes all alike. Nothing is entered in these events, and in them each node sends a
-/// frame to each other, which takes it. Frames may be cut, repeated and taken in any order besides.
-/// Then each node counts at the end all that was ever entered. So all have one view, and show the
-/// same of every LRA and of every participant.
+/// One round makes all nodes alike. Nothing is entered during these events, and each node sends a
+/// frame to each other node, which takes it. Frames may also be cut, repeated and taken in any
+/// order. Then each node counts at the end everything that was ever entered. So all nodes have the
+/// same view, and show the same of every LRA and every participant.
 pub fn one_round_makes_all_alike()
     ensures all { (s t : State) (events : List Event) (replies : List Reply) (node : ℕ) →
         IsWorld s → Runs s events replies t → t.history ≡ s.history → IsRound s events replies →
@@ -203,28 +206,28 @@ pub fn one_round_makes_all_alike()
 {}
 
 /// One round brings what was entered before it, whatever is entered meanwhile: each node counts at
-/// the end all that each node had entered at the start. So nobody's view is older than one round.
+/// the end everything that each node had entered at the start. So no node's view is older than one
+/// round.
 pub fn one_round_brings_what_was_entered()
     ensures { (s t : State) (events : List Event) (replies : List Reply) (node from : ℕ) →
         IsWorld s → Runs s events replies t → IsRound s events replies → IsNode s node →
         IsNode s from → length (entries_of s.history from) ≤ count (front_of t node) from }
 {}
 
-/// A round can be made from each state, where what the nodes hold fits into frames: each node sends
-/// one since nothing, and each takes them all.
+/// A round can be made from each state in which what the nodes hold fits into frames: each node
+/// sends one frame since nothing, and takes the frames of all others.
 pub fn a_round_can_be_made()
     ensures { (s : State) → IsWorld s → CanTell s → HasRound s }
 {}
 
-/// Where no command and no tick comes, nothing is entered: frames and restarts leave the history as
-/// it was.
+/// Without commands and ticks nothing is entered: frames and restarts leave the history as it was.
 pub fn frames_enter_nothing()
     ensures { (s t : State) (events : List Event) (replies : List Reply) →
         Runs s events replies t → list_any may_enter events ≡ false → t.history ≡ s.history }
 {}
 
-/// Nothing refuses such a round: a frame since nothing is sent whenever it is asked for, and taken
-/// wherever it comes whole.
+/// Nothing refuses such a round: a frame since nothing is sent whenever it is asked for, and is
+/// taken wherever it arrives whole.
 pub fn a_frame_since_nothing_is_taken()
     ensures sent { (s t : State) (node : ℕ) (reply : Reply) → IsWorld s → IsNode s node →
         Steps s (Send node (replicate (nodes_of s) 0) Two) reply t →

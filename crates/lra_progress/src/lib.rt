@@ -1,5 +1,5 @@
 //! Laws of progress, without time and without fairness: nothing is stuck, and one round makes all
-//! alike.
+//! nodes alike.
 #![tactic(auto)]
 
 pub mod laws;

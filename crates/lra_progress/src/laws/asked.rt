@@ -1,5 +1,5 @@
-//! Laws of what a participant is asked: what one who writes a service may rely on. By the clause
-//! `listed` a call is due just where the home lists it.
+//! Laws of what a participant is asked. The author of a service may rely on them. By the clause
+//! `listed`, a call is due exactly when the home lists it.
 ghost use Rattle.std.specs.Prelude.{◌≡◌, ◌↔◌, ℕ, List, false, true};
 ghost use Rattle.lra_id.specs.Ids.{Id};
 ghost use Rattle.lra_id.specs.declared.outcome.Act.{Act as TheAct};
@@ -18,10 +18,10 @@ ghost use Rattle.lra_world.specs.Headline.{IsAncestorCancelled, IsNode};
 ghost use Rattle.lra_world.specs.Worlds.{IsViewOf, IsWorld, Runs, State, front_of, set_of};
 ghost use Rattle.lra_progress.specs.Asked.{IsAskedFor, IsCalledTo};
 
-/// What a participant is asked goes one way, whatever happens. Once it was to be asked to
+/// What a participant is asked only moves forward, whatever happens. Once it was due to be asked to
 /// compensate, no node is to ask it to complete. Once a node heard the end of an act, that node
-/// doesn't ask for the act again. Once it was to be called to forget, or to hear of the end, it is
-/// asked for no act any more.
+/// doesn't ask for the act again. Once the participant was due to be called to forget, or to hear
+/// of the end, it is asked for no act any more.
 pub fn what_is_asked_goes_one_way()
     ensures compensated { (s t : State) (events : List Event) (replies : List Reply)
         (one other : ℕ) (l : Id) (m : ℕ) → IsWorld s → Runs s events replies t → IsNode s one →
@@ -38,8 +38,9 @@ pub fn what_is_asked_goes_one_way()
         IsNode s node → IsCalledTo s node l m After → IsAskedFor t node l m act → ⊥ }
 {}
 
-/// A participant is asked for both acts only where an LRA above its own was cancelled, and then to
-/// complete first, by the clause `compensated`. So one of a root is asked for one of the two only.
+/// A participant is asked for both acts only if an LRA above its own was cancelled, and then to
+/// complete first, by the clause `compensated`. So a participant of a root is asked for only one of
+/// the two.
 pub fn both_acts_are_asked_only_so()
     ensures above { (s t : State) (events : List Event) (replies : List Reply)
         (one other : ℕ) (l : Id) (m : ℕ) → IsWorld s → Runs s events replies t →
@@ -51,8 +52,8 @@ pub fn both_acts_are_asked_only_so()
         IsAskedFor s one l m Complete → IsAskedFor t other l m Compensate → ⊥ }
 {}
 
-/// A call is due at a node just where the list that the node makes of its view has it. It is one to
-/// a participant of an LRA of that node: its home.
+/// A call is due at a node exactly when it is on the list that the node makes from its view. It is
+/// a call to a participant of an LRA whose home is that node.
 pub fn a_call_is_listed_where_it_is_due()
     ensures listed { (s : State) (node : ℕ) (view : View) (call : Duty) →
         IsWorld s → IsNode s node → IsViewOf s.history (front_of s node) view →

@@ -1,5 +1,5 @@
-//! A bound in rounds of calls: everyone who is to act is called at once, and gives an end. Time is
-//! not spoken of: a round is as long as the slowest answer.
+//! A bound in rounds of calls: in each round every participant that is to act is called at once,
+//! and gives an end. Nothing is said of time: a round is as long as the slowest answer.
 ghost use Rattle.std.specs.Prelude.{◌≡◌, ◌≤◌, ◌-◌, ℕ, List, Some, length, true};
 ghost use Rattle.lra_id.specs.Ids.{Id};
 ghost use Rattle.lra_id.specs.declared.outcome.Verdict.{Verdict as TheVerdict};
@@ -12,9 +12,9 @@ ghost use Rattle.lra_progress.specs.Calls.{open_under, saga_of};
 ghost use Rattle.lra_progress.specs.CallRounds.{GoInRounds, IsCallRound, compensations_left};
 ghost use Rattle.lra_progress.specs.Ends.{last_state};
 
-/// A decided tree ends in as many rounds as it has participants to compensate, and in one round
-/// where it has none. Those that complete all do so in the first round; compensations go one after
-/// another at worst. It counts those that are open at the start.
+/// A decided tree ends in as many rounds as it has participants to compensate, or in one round if
+/// it has none. Participants that complete all do so in the first round, and compensations go one
+/// after another at worst. Only those that are open at the start count.
 pub fn a_decided_tree_ends_in_so_many_rounds()
     ensures ends { (s : State) (ts : List State)
         (node : ℕ) (root : Id) (verdict : TheVerdict) → IsWorld s → IsNode s node →
@@ -30,8 +30,9 @@ pub fn a_decided_tree_ends_in_so_many_rounds()
         compensations_left (set_of s node) l ≤ open_under (set_of s node) l }
 {}
 
-/// So does each LRA that waits for none but those under itself, and still does at the end: no LRA
-/// above it was cancelled meanwhile. One that is to close is such a one, as long as it is to close.
+/// The same holds for each LRA that waits only for participants under itself, and still does at the
+/// end, that is, no LRA above it was cancelled meanwhile. An LRA that is to close is of this kind,
+/// as long as it is to close.
 pub fn a_saga_ends_in_so_many_rounds()
     ensures alone { (s : State) (ts : List State)
         (node : ℕ) (l : Id) (verdict : TheVerdict) → IsWorld s → IsNode s node →
@@ -47,9 +48,9 @@ pub fn a_saga_ends_in_so_many_rounds()
         is_ended (set_of (last_state s ts) node) l ≡ true }
 {}
 
-/// Sagas go side by side: a decided tree ends in as many rounds as its longest saga has
-/// participants to compensate. A saga is all under an LRA that is the topmost cancelled one of its
-/// chain. Where there is none, one round is enough.
+/// Sagas proceed side by side: a decided tree ends in as many rounds as its longest saga has
+/// participants to compensate. A saga is everything under an LRA that is the topmost cancelled one
+/// of its chain. If there is no saga, one round is enough.
 pub fn a_decided_tree_ends_with_its_longest_saga()
     ensures { (s : State) (ts : List State)
         (node : ℕ) (root : Id) (verdict : TheVerdict) → IsWorld s → IsNode s node →

@@ -1,4 +1,4 @@
-//! Laws of the diagram: what a node shows of one LRA goes as an automaton does.
+//! Laws of the diagram: what a node shows of one LRA follows an automaton.
 ghost use Rattle.std.specs.Prelude.{◌≡◌, ℕ, List, Ok, false, true};
 ghost use Rattle.lra_id.specs.Ids.{Id};
 ghost use Rattle.lra_id.specs.declared.status.LraStatus.{LraStatus as TheStatus};
@@ -9,10 +9,10 @@ ghost use Rattle.lra_world.specs.Headline.{IsAncestorCancelled, IsNode, shown_at
 ghost use Rattle.lra_world.specs.Worlds.{IsWorld, Runs, State, set_of};
 ghost use Rattle.lra_progress.specs.Diagram.{IsCrossed, IsPath, are_parted, is_edge, is_own_edge};
 
-/// What a node shows of an LRA goes by the diagram: whatever happens, edges lead from what it shows
-/// to what it shows later. They are those of the standard and late failures alone, where no LRA in
-/// which it is nested was cancelled, and so of every root. A node that took many facts at once may
-/// have passed statuses that it never showed.
+/// What a node shows of an LRA follows the diagram: whatever happens, edges lead from what it shows
+/// to what it shows later. If no LRA above it was cancelled, and so for every root, these are only
+/// the standard's edges and the late failures. A node that took many facts at once may have passed
+/// statuses that it never showed.
 pub fn an_lra_goes_by_the_diagram()
     ensures path { (s t : State) (events : List Event) (replies : List Reply)
         (node : ℕ) (l : Id) (a b : TheStatus) → IsWorld s → Runs s events replies t →
@@ -27,9 +27,9 @@ pub fn an_lra_goes_by_the_diagram()
         is_root (set_of s node) l ≡ true → IsPath is_own_edge a b }
 {}
 
-/// A root keeps to one branch: no node ever shows it on that of closing where any node shows it, at
-/// that moment or later, on that of cancelling, nor the other way round. So of every LRA, unless
-/// one in which it is nested was cancelled.
+/// A root keeps to one branch. If any node shows it on the branch of closing, no node shows it, at
+/// that moment or later, on that of cancelling, and the other way round. The same holds for every
+/// LRA, unless an LRA above it was cancelled.
 pub fn a_root_keeps_to_one_branch()
     ensures root { (s t : State) (events : List Event) (replies : List Reply)
         (one other : ℕ) (l : Id) (a b : TheStatus) → IsWorld s → Runs s events replies t →
@@ -41,7 +41,7 @@ pub fn a_root_keeps_to_one_branch()
         (IsAncestorCancelled t l → ⊥) → are_parted a b ≡ false }
 {}
 
-/// No edge is idle: each happens by one event.
+/// No edge is unused: each one is crossed by one event.
 pub fn each_edge_happens()
     ensures { (a b : TheStatus) → is_edge a b ≡ true → IsCrossed a b }
 {}
