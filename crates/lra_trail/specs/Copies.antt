@@ -16,11 +16,12 @@ TakesIn (e ∷ es) delta = ((e.call ≡ Take delta) × (e.reply ≡ Took)) ⊎ T
 abbrev pub is_missed : (me : ℕ) → (heard : ℕ → Bool) → (node : ℕ) → Bool
 is_missed me heard node = not (node == me) && not (heard node)
 
--- how many of so many nodes are others that aren't
+-- how many of this many nodes are others that aren't heard
 abbrev pub missed : (me nodes : ℕ) → (heard : ℕ → Bool) → ℕ
 missed me nodes heard = length (filter (is_missed me heard) (range_with_len 1 nodes))
 
--- of each other node that is heard the trail takes a frame, which counts as many facts of the node me as that one told that it has
+-- from each other node that is heard the trail takes a frame, which counts at least as many facts
+-- of the node me as that node told that it has
 abbrev pub HearsEach : (me : ℕ) → (heard : ℕ → Bool) → (told : List ℕ) → List Entry → Type 0
 HearsEach me heard told trail =
     (node : ℕ) → (node ≡ me → ⊥) → heard node ≡ true → (delta : Frame) × (count told node ≤ count delta.front me) × TakesIn trail delta

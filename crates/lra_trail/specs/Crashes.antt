@@ -1,4 +1,4 @@
--- Servers that are killed: beside their turns, calls whose answers are lost.
+-- Servers that are killed: in addition to their turns there are calls whose answers are lost.
 use Rattle.std.specs.Prelude.{◌≡◌, ◌⊎◌, ◌==◌, ℕ, List, [], ◌∷◌, if◌then◌else◌}
 use Rattle.lra_history.specs.Views.{View}
 use Rattle.lra_world.specs.Headline.{IsNode}
@@ -10,8 +10,8 @@ use Rattle.lra_book.specs.Trails.{entry}
 use Rattle.lra_trail.specs.NodeTrails.{Arrival, Follows, IsReplied, IsServed, WasSent, event_of}
 use Rattle.lra_trail.specs.Servers.{AreServed, Turn}
 
--- a call whose answer nobody hears, since its node stops in it: what was asked, with the frame that came where it takes one, and the
--- view that the node's next start finds
+-- a call whose answer nobody receives because its node stops in it: what was asked, the frame that
+-- came if it takes one, and the view that the node's next start finds
 pub record LostCall : Type 0 where
   pub node : ℕ
   pub asked : Call
@@ -27,14 +27,16 @@ pub data Happening : Type 0 where
   Heard : Turn → Happening
   Lost : LostCall → Happening
 
--- A lost call can come next at a node with the view a: its start finds that, or the view of a reply, whose frame was sent if it takes
--- one. A start finds nothing else, by a law of lra_book
+-- A lost call can come next at a node with the view a: the node's start finds a, or the view after
+-- a reply, and if the call takes a frame, that was sent. A law of lra_book says that a start finds
+-- nothing else
 pub record CanBeLost (s : State) (a : View) (lost : LostCall) : Type 0 where
   pub node : IsNode s lost.node
   pub behind : IsFoundBehind lost.node a lost.asked lost.moment lost.found
   pub sent : (reply : Reply) → IsNext lost.node a lost.asked lost.moment reply lost.found → WasSent s lost.frame lost.asked reply
 
--- the world goes on as before the call, or as its entry's event leaves it; and the node is served by what was found
+-- the world goes on as before the call, or as the event of its entry leaves it, and the node is
+-- served by what was found
 pub record GoesOn (s : State) (a : View) (lost : LostCall) (t : State) : Type 0 where
   pub moved : (t ≡ s) ⊎ IsReplied lost.node s a lost.asked lost.moment lost.frame lost.found t
   pub served : IsServed lost.node t lost.found
@@ -50,16 +52,17 @@ abbrev pub place_of : Happening → ℕ
 place_of (Heard turn) = turn.node
 place_of (Lost lost) = lost.node
 
--- at its node it leads from state s and the view a to state t and the view b
+-- what happens leads, at its node, from state s and the view a to state t and the view b
 abbrev pub Happens : State → (a : View) → Happening → State → (b : View) → Type 0
 Happens s a (Heard turn) t b = CanBeHeard s a turn b × Follows s (event_of turn.node turn.frame turn.entry) t
 Happens s a (Lost lost) t b = CanBeLost s a lost × GoesOn s a lost t × (b ≡ lost.found)
 
--- the view of one node is another
+-- the views in which one node has this view
 abbrev pub with_view : (views : ℕ → View) → ℕ → View → (ℕ → View)
 with_view views node next k = if node == k then next else views k
 
--- all this happens from state s and these views on, and leads to state t, in which the nodes have the views of the end
+-- all this happens from state s and these views on, and leads to state t, in which the nodes have
+-- the views `ends`
 abbrev pub HappenAll : State → (views : ℕ → View) → List Happening → State → (ends : ℕ → View) → Type 0
 HappenAll s views [] t ends = (t ≡ s) × ((node : ℕ) → IsNode s node → ends node ≡ views node)
 HappenAll s views (first ∷ rest) t ends =
@@ -72,11 +75,12 @@ pub record AreTrailsWithCrashes (s : State) (views : ℕ → View) (happened : L
   pub served : AreServed s views
   pub happen : HappenAll s views happened t ends
 
--- the lost call as a turn, as if it had been answered so
+-- the lost call as a turn, as if it had been answered with this reply
 abbrev pub turn_of : LostCall → Reply → Turn
 turn_of lost reply = record { node = lost.node; entry = entry lost.asked lost.moment reply; frame = lost.frame }
 
--- the turns are those that were answered, in their order; and a lost call is none among them, or is there with some reply
+-- the turns are those that were answered, in their order; each lost call is either not among them,
+-- or is there with some reply
 abbrev pub Keeps : List Happening → (turns : List Turn) → Type 0
 Keeps [] turns = turns ≡ []
 Keeps (Heard turn ∷ happened) turns = (rest : List Turn) × (turns ≡ turn ∷ rest) × Keeps happened rest

@@ -1,4 +1,4 @@
--- What becomes of a call that was due.
+-- What happens to a call that was due.
 use Rattle.std.specs.Prelude.{◌≡◌, ◌⊎◌, ◌&&◌, ℕ, Bool, true, false, Some, List}
 use mathlib.Core.Bool.{not}
 use Rattle.lra_id.specs.Ids.{Id}
@@ -19,7 +19,8 @@ use Rattle.lra_callback.specs.CallDuties.{IsDuty}
 use Rattle.lra_callback.specs.ViewDuties.{duties_of}
 use Rattle.lra_progress.specs.Calls.{IsActUnder, asks_to_act, is_answered, saga_of}
 
--- the same participant is to be called for the same, or asked for its status: it said meanwhile that it is busy
+-- the same participant is to be called for the same, or is to be asked for its status because it
+-- said meanwhile that it is busy
 pub record IsStillDue (home : ℕ) (T : List Fact) (call : Duty) : Type 0 where
   pub later : Duty
   pub due : IsDuty home T later
@@ -28,8 +29,8 @@ pub record IsStillDue (home : ℕ) (T : List Fact) (call : Duty) : Type 0 where
   pub act : later.act ≡ call.act
   pub kind : (later.kind ≡ call.kind) ⊎ ((asks_to_act call.kind ≡ true) × (later.kind ≡ Status))
 
--- An LRA of the chain was cancelled above all that were: so a completion is called no more, and a compensation waits for its turn in
--- the greater saga, where it is still to be done
+-- An LRA of the chain was cancelled above all that had been. So a completion is called no more, and
+-- a compensation waits for its turn in the greater saga, where it must still be done
 pub record IsOvertaken (S T : List Fact) (call : Duty) : Type 0 where
   pub asks : asks_to_act call.kind ≡ true
   pub held : is_held T call.id ≡ true
@@ -39,34 +40,36 @@ pub record IsOvertaken (S T : List Fact) (call : Duty) : Type 0 where
   pub known : is_participant T call.id call.member ≡ true
   pub pending : call.act ≡ Compensate → is_uncompensated T call.id call.member ≡ true
 
--- What became, by the set T, of a call that was due by the set S before: it is due still, it was answered, what it was for was purged,
--- or a cancel overtook it
+-- What happened by the set T to a call that was due by the earlier set S: it is still due, it was
+-- answered, what it was for was purged, or a cancel overtook it
 pub data IsKept (home : ℕ) (S T : List Fact) (call : Duty) : Type 0 where
   StillDue : IsStillDue home T call → IsKept home S T call
   Answered : is_answered call.kind T call.id call.member call.act ≡ true → IsKept home S T call
   Purged : is_held T call.id ≡ false → IsKept home S T call
   Overtaken : IsOvertaken S T call → IsKept home S T call
 
--- a call is done with: it was answered; or it asked to complete, and its LRA was cancelled
+-- a call is done with: it was answered, or it asked to complete and its LRA was cancelled
 abbrev pub IsDone : List Fact → Duty → Type 0
 IsDone T call =
     (is_answered call.kind T call.id call.member call.act ≡ true) ⊎ ((call.act ≡ Complete) × (want T call.id ≡ Some Cancel))
 
--- Why a call is due no more
+-- Why a call is no longer due
 
--- it is the answer to a call: the end of the act that was asked for, or that the participant was told
+-- the body is the answer to a call: the end of the act that was asked for, or that the participant
+-- was told
 abbrev pub answers : Kind → Id → ℕ → Act → Body → Bool
 answers Forget l m act body = is_forgot l m body
 answers After l m act body = is_told_of l m body
 answers _ l m act body = not (is_pending (reported l m act body))
 
--- it ends a call: it purges or, of a call to act, cancels an LRA of its chain, or is the answer
+-- the body ends a call: it is the answer, it purges an LRA of the call's chain, or it cancels one
+-- and the call asks to act
 abbrev pub ends_call : List Fact → Duty → Body → Bool
 ends_call T call (Purge root) = is_under T root call.id
 ends_call T call (Decide l Cancel) = asks_to_act call.kind && is_under T l call.id
 ends_call T call body = answers call.kind call.id call.member call.act body
 
--- T has such a fact, which S hadn't
+-- T has such a fact, which S doesn't have
 pub record IsEnded (S T : List Fact) (call : Duty) : Type 0 where
   pub fact : Fact
   pub there : In fact T
@@ -75,13 +78,14 @@ pub record IsEnded (S T : List Fact) (call : Duty) : Type 0 where
 
 -- Compensations
 
--- it asks a participant to compensate, or how far it is with that
+-- the call asks a participant to compensate, or how far it is with that
 pub record IsToCompensate (call : Duty) : Type 0 where
   pub asks : asks_to_act call.kind ≡ true
   pub act : call.act ≡ Compensate
 
--- A call to compensate is not lost, by a later view of the node and its set T: the participant is on the view's list of calls still;
--- its end was heard; or it is still to compensate, and waits for one in its saga that is on the list
+-- A call to compensate is not lost, by a later view of the node and its set T: the participant is
+-- still on the view's list of calls; or its end was heard; or it must still compensate, and waits
+-- for one in its saga that is on the list
 pub data IsNotLost (node : ℕ) (T : List Fact) (view : View) (call : Duty) : Type 0 where
   Listed : (later : Duty) → In later (duties_of view node)
       → (later.id ≡ call.id) × (later.member ≡ call.member) × (later.act ≡ Compensate) → IsNotLost node T view call
@@ -89,14 +93,16 @@ pub data IsNotLost (node : ℕ) (T : List Fact) (view : View) (call : Duty) : Ty
   Waits : is_uncompensated T call.id call.member ≡ true → (next : Duty) → In next (duties_of view node)
       → IsActUnder T (saga_of T call.id) next → IsNotLost node T view call
 
--- the participant m of l is to compensate, now or later: it gave a link for that, its LRA is cancelled, and no end was heard
+-- the participant m of l has to compensate, now or later: it gave a link for that, its LRA is
+-- cancelled, and no end was heard
 pub record HasToCompensate (S : List Fact) (l : Id) (m : ℕ) : Type 0 where
   pub held : is_held S l ≡ true
   pub wants : want S l ≡ Some Cancel
   pub known : is_participant S l m ≡ true
   pub pending : is_uncompensated S l m ≡ true
 
--- its end was heard, or it is to compensate still, and one of its saga is on the node's list of calls
+-- its end was heard, or it still has to compensate and a participant of its saga is on the node's
+-- list of calls
 abbrev pub IsEndedOrWaits : (node : ℕ) (T : List Fact) (view : View) (l : Id) (m : ℕ) → Type 0
 IsEndedOrWaits node T view l m =
     (is_pending (heard T l m Compensate) ≡ false)

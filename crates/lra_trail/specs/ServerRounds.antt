@@ -1,4 +1,4 @@
--- A round of servers: each node hears what each other gave.
+-- A round of servers: each node takes what each other node gave.
 use Rattle.std.specs.Prelude.{◌≡◌, ◌⊎◌, ℕ, List, replicate}
 use Rattle.lra_id.specs.Fronts.{IsBelow}
 use Rattle.lra_facts.specs.Lists.{In}
@@ -19,15 +19,16 @@ use Rattle.lra_trail.specs.Servers.{AreTrails, Turn, trail_at}
 abbrev pub HasCall : List Entry → Call → Reply → Type 0
 HasCall trail call reply = (now : ℕ) × In (entry call now reply) trail
 
--- In these turns the one node gave a frame, and the other took it, or counts at the end all that it counts: a server leaves out a
--- frame of which nothing is new. It is said of the frame and not of its number, so the proof reads two trails, and no run of the world
+-- In these turns one node gave a frame, and the other took it or counts at the end everything that
+-- the frame counts: a server leaves out a frame that brings it nothing new. This speaks of the
+-- frame and not of its number, so the proof reads two trails and no run of the world
 pub record Tells (from to : ℕ) (turns : List Turn) (end : View) : Type 0 where
   pub frame : Frame
   pub asked : List ℕ
   pub gave : HasCall (trail_at from turns) (Pull asked) (Gave frame)
   pub heard : HasCall (trail_at to turns) (Take frame) Took ⊎ IsBelow frame.front end.front
 
--- in these turns each node gave each other a frame, and that took it or has it
+-- in these turns each node gave each other node a frame, and the other took it or has its contents
 abbrev pub IsServerRound : State → List Turn → (ends : ℕ → View) → Type 0
 IsServerRound s turns ends = (from to : ℕ) → IsNode s from → IsNode s to → (from ≡ to → ⊥) → Tells from to turns (ends to)
 
@@ -35,7 +36,7 @@ IsServerRound s turns ends = (from to : ℕ) → IsNode s from → IsNode s to �
 abbrev pub FitIntoFrames : State → (views : ℕ → View) → Type 0
 FitIntoFrames s views = (node : ℕ) → IsNode s node → IsTyped (frame_of (views node) (replicate (nodes_of s) 0))
 
--- such turns lead on from here, and enter nothing
+-- such turns lead on from this state, and enter nothing
 pub record HasServerRound (s : State) (views : ℕ → View) : Type 0 where
   pub turns : List Turn
   pub state : State

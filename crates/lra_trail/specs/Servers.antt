@@ -1,4 +1,4 @@
--- A server at each node of the world: nothing happens but their calls.
+-- A server at each node of the world: nothing happens except for their calls.
 use Rattle.std.specs.Prelude.{◌≡◌, ◌⊎◌, ◌==◌, ℕ, List, [], ◌∷◌, if◌then◌else◌}
 use Rattle.lra_id.specs.Ids.{Id}
 use Rattle.lra_id.specs.declared.status.LraStatus.{LraStatus}
@@ -15,7 +15,7 @@ use Rattle.lra_book.specs.Next.{IsNext}
 use Rattle.lra_book.specs.Trails.{LeadsTo}
 use Rattle.lra_trail.specs.NodeTrails.{Arrival, Follows, IsServed, Leaves, WasSent, event_of, with_event}
 
--- what happens next: the next entry of a node's trail, with the frame that came where it takes one
+-- what happens next: the next entry of a node's trail, with the frame that arrived if it takes one
 pub record Turn : Type 0 where
   pub node : ℕ
   pub entry : Entry
@@ -26,12 +26,13 @@ abbrev pub trail_at : ℕ → List Turn → List Entry
 trail_at node [] = []
 trail_at node (turn ∷ turns) = if turn.node == node then turn.entry ∷ trail_at node turns else trail_at node turns
 
--- all that happens in the world
+-- all events that happen in the world
 abbrev pub events_in : List Turn → List Event
 events_in [] = []
 events_in (turn ∷ turns) = with_event (event_of turn.node turn.frame turn.entry) (events_in turns)
 
--- the turns come one after another from state s, and leave state t: each is one of a node of the world
+-- the turns come one after another from state s, and lead to state t; each belongs to a node of the
+-- world
 abbrev pub TakeTurns : State → List Turn → State → Type 0
 TakeTurns s [] t = t ≡ s
 TakeTurns s (turn ∷ turns) t =
@@ -48,14 +49,15 @@ AreTurnReplies t (turn ∷ turns) replies =
 abbrev pub AreServed : State → (views : ℕ → View) → Type 0
 AreServed s views = (node : ℕ) → IsNode s node → IsServed node s (views node)
 
--- each node's trail is legal from its view, and leads to its view at the end; and all together lead from state s to state t
+-- each node's trail is legal from its view, and leads to its view at the end; all of them together
+-- lead from state s to state t
 pub record AreTrails (s : State) (views : ℕ → View) (turns : List Turn) (t : State) (ends : ℕ → View) : Type 0 where
   pub world : IsWorld s
   pub served : AreServed s views
   pub legal : (node : ℕ) → IsNode s node → LeadsTo node (views node) (trail_at node turns) (ends node)
   pub taken : TakeTurns s turns t
 
--- Then they are one run of the world, and each replay is the view of what its node holds at the end
+-- The turns are one run of the world, and each replay is the view of what its node holds at the end
 pub record AreOneRun (s : State) (turns : List Turn) (t : State) (ends : ℕ → View) : Type 0 where
   pub replies : List Reply
   pub runs : Runs s (events_in turns) replies t
@@ -65,21 +67,22 @@ pub record AreOneRun (s : State) (turns : List Turn) (t : State) (ends : ℕ →
 
 -- What servers answer
 
--- by its view a node answers that an LRA shows this
+-- a node answers, by its view, that an LRA has this status
 abbrev pub Answers : (node : ℕ) → View → Id → LraStatus → Type 0
 Answers node a l status = (now : ℕ) × ((b : View) × IsNext node a (Status l) now (Shown l status) b)
 
--- that it is to close, or did, or failed to
+-- a node answers that the LRA is closing, closed, or failed to close
 abbrev pub AnswersClose : (node : ℕ) → View → Id → Type 0
 AnswersClose node a l = Answers node a l Closing ⊎ Answers node a l Closed ⊎ Answers node a l FailedToClose
 
--- that it is to be cancelled, or was, or failed to be
+-- a node answers that the LRA is cancelling, cancelled, or failed to cancel
 abbrev pub AnswersCancel : (node : ℕ) → View → Id → Type 0
 AnswersCancel node a l = Answers node a l Cancelling ⊎ Answers node a l Cancelled ⊎ Answers node a l FailedToCancel
 
--- What holds of the servers' answers, whatever was called between the views and those at the end. Two nodes that took the same
--- facts have equal views, so they answer the same. And of no LRA one node answers that it closes and one that it is cancelled,
--- the one before and the other after, unless an LRA in which it is nested was cancelled
+-- What holds of the servers' answers, whatever was called between these views and those at the end.
+-- Two nodes that took the same facts have equal views, so they answer the same. If one node answers
+-- that an LRA closes, and a node answers that it is cancelled, one before and the other after, an
+-- LRA above it was cancelled
 pub record AnswersConverge (s : State) (views : ℕ → View) (t : State) (ends : ℕ → View) : Type 0 where
   pub equal : (one other : ℕ) → TookTheSame t one other → ends one ≡ ends other
   pub cancelled_late : (one other : ℕ) (l : Id) → IsNode s one → IsNode t other →

@@ -11,19 +11,22 @@ use Rattle.lra_journal.specs.Ruled.{KeepsRulesAs}
 use Rattle.lra_journal.specs.Stands.{StandsAs}
 use Rattle.lra_journal.specs.Tables.{IsJournal}
 
--- what an opening finds in rows: the view for which they stand in one of the versions, by whose rules they are read
+-- what an opening finds in rows: the view for which they stand in one of the versions, by whose
+-- rules they are read
 pub record IsFoundIn (me : ℕ) (db : Trees) (view : View) : Type 0 where
   pub version : Version
   pub stands : StandsAs version me db view
   pub rules : KeepsRulesAs version view
 
--- an opening that was stopped: the connection that it took, what it left of that, and the rows that the stop left
+-- an opening that was stopped: the connection that it took, the state in which it left that
+-- connection, and the rows that the stop left
 pub record StoppedOpening (S : Type 0) : Type 0 where
   pub taken : Held S
   pub left : Held S
   pub rows : Trees
 
--- it took a journal with the rows before, and a stop may leave those rows of what it left
+-- the opening took a journal with the rows `before`, and a stop may leave the opening's rows of the
+-- connection that it left
 pub record IsStopped {S : Type 0} (g : Ghosts S) (me nodes : ℕ) (before : Trees) (opening : StoppedOpening S) : Type 0 where
   pub was : IsJournal (state g opening.taken)
   pub shows : (state g opening.taken).now.trees ≡ before
@@ -31,7 +34,7 @@ pub record IsStopped {S : Type 0} (g : Ghosts S) (me nodes : ℕ) (before : Tree
   pub clean : HasCleanDisk (state g opening.left)
   pub may : (state g opening.left).may_leave opening.rows
 
--- each took the rows that the one before it left
+-- each opening took the rows that the one before it left
 abbrev pub AreStopped : {S : Type 0} → Ghosts S → (me nodes : ℕ) → (before : Trees) → List (StoppedOpening S) → (after : Trees) → Type 0
 AreStopped g me nodes before [] after = after ≡ before
 AreStopped g me nodes before (opening ∷ openings) after = IsStopped g me nodes before opening × AreStopped g me nodes opening.rows openings after

@@ -1,4 +1,4 @@
-//! Laws of a node in the world: each function does nothing, and its contract is the law.
+//! Laws of a node in the world. Each function does nothing, and its contract is the law.
 pub mod copies;
 pub mod crashes;
 pub mod rounds;
@@ -30,16 +30,16 @@ ghost use Rattle.lra_trail.specs.NodeTrails.{Arrival, Follows, IsPlayed, IsRepli
 
 use lra_journal::laws::views_of_a_history_keep_the_rules;
 
-/// A node's trail is a run of the world. Whatever happens at the other nodes between its entries:
-/// its commands that are accepted and its deadlines that pass are replied in the world as its
-/// entries say, the frames that it gives are those that are sent, and its replay is the view of
-/// what it holds there at the end. So the headline holds of it.
+/// A node's trail is a run of the world, whatever happens at the other nodes between its entries.
+/// In the world, the node's accepted commands and passed deadlines get the replies that the trail's
+/// entries have, and the frames that the node gives are those that are sent. The trail's replay is
+/// the view of what the node holds at the end. So the headline holds of it.
 pub fn a_trail_is_a_run_of_the_world()
     ensures { (me : ℕ) (s t : State) (a b : View) (items : List Item) →
         IsPlayed me s a items t b → IsRun me s items t b }
 {}
 
-/// An entry that is legal next can always happen next in the world, where a frame that it takes was
+/// An entry that is legal next can always happen next in the world, if a frame that it takes was
 /// sent, in either version.
 pub fn an_entry_can_happen()
     ensures { (me : ℕ) (s : State) (a b : View) (entry : Entry) (frame : Arrival) → IsServed me s a →
@@ -47,10 +47,11 @@ pub fn an_entry_can_happen()
         (t : State) × Follows s (event_of me frame entry) t }
 {}
 
-/// A call whose answer was lost, since the program stopped in it or its journal failed. Where the
-/// next start finds what the node held before the call, or what it holds behind it, the call is no
-/// event in the world, or the one that its entry is; and the node is served by what was found. That
-/// a start finds nothing else is the law `a_start_finds_the_records_before_or_after` of `lra_book`.
+/// A call whose answer was lost, because the program stopped in it or its journal failed, is at
+/// most one event. If the next start finds what the node held before the call, or what it holds
+/// after it, then in the world the call is no event, or it is the event of its entry. The node is
+/// served by what was found. The law `a_start_finds_the_records_before_or_after` of `lra_book` says
+/// that a start finds nothing else.
 pub fn a_lost_answer_is_at_most_one_event()
     ensures entry { (me : ℕ) (s : State) (a b found : View) (entry : Entry) (frame : Arrival) →
         IsServed me s a → IsNext me a entry.call entry.moment entry.reply b →
@@ -63,8 +64,8 @@ pub fn a_lost_answer_is_at_most_one_event()
         × ((t ≡ s) ⊎ IsReplied me s a asked now frame found t) × IsServed me t found }
 {}
 
-/// What a node holds keeps the rules by which rows are read, where its records have the types of
-/// records and there are at most eight nodes; and so does what it holds behind its next call.
+/// What a node holds keeps the rules by which rows are read, if its records have the types of
+/// records and there are at most eight nodes. The same holds for what it holds after its next call.
 pub fn what_a_node_holds_keeps_the_rules()
     ensures held { (me : ℕ) (s : State) (a : View) →
         IsServed me s a → length a.front ≤ MAX_NODES → AreTyped a → KeepsRules a }
@@ -75,8 +76,8 @@ pub fn what_a_node_holds_keeps_the_rules()
     views_of_a_history_keep_the_rules();
 }
 
-/// What a node answers is what the definitions give for what it holds in the world: of an LRA and
-/// of a participant it shows what the headline speaks of.
+/// A node's answer is what the definitions give for what it holds in the world. Of an LRA and of a
+/// participant it shows what the headline speaks of.
 pub fn a_node_answers_as_the_world()
     ensures set { (me now : ℕ) (s : State) (a b : View) (call : Call) (reply : Reply) →
         IsServed me s a →
@@ -90,8 +91,9 @@ pub fn a_node_answers_as_the_world()
         (k ≡ l) × (n ≡ m) × (member_at s me l m ≡ Ok status) }
 {}
 
-/// A node is served from the first state on, by the view of no facts. And it is enough that a view
-/// of as many nodes stands for the node's set: then it is the view of what the node holds.
+/// From the first state on a node is served by the view of no facts. To be served, it is enough
+/// that a view of as many nodes stands for the node's set: then it is the view of what the node
+/// holds.
 pub fn a_view_that_stands_is_served()
     ensures first { (nodes me : ℕ) →
         IsNode (start nodes) me → IsServed me (start nodes) (empty_view nodes) }
@@ -99,9 +101,9 @@ pub fn a_view_that_stands_is_served()
         IsNode s me → length a.front ≡ nodes_of s → StandsFor (set_of s me) a → IsServed me s a }
 {}
 
-/// A frame that a node gives can be taken by another. What a frame tells is what its bytes encode,
-/// in the version in which it was sent; and what a node gives has an encoding, where its types say
-/// that its numbers and texts fit.
+/// A frame that a node gives can be taken by another. A frame tells what its bytes encode, in the
+/// version in which it was sent. What a node gives has an encoding, if its types say that its
+/// numbers and texts fit.
 pub fn a_frame_that_is_given_can_be_taken()
     ensures encoded { (v : Version) (s : State) (number : ℕ) (delta : Frame) →
         IsDeltaAs v delta → IsToldAs v s number delta → (sent : SentFrame)
@@ -114,8 +116,8 @@ pub fn a_frame_that_is_given_can_be_taken()
         IsNext me a (Pull body) now (Gave delta) b → IsTyped delta → IsDelta delta }
 {}
 
-/// Where each node of the world is a server, all their trails together are one run of the world;
-/// and so the headline holds of what the servers answer.
+/// If each node of the world is a server, all their trails together are one run of the world. So
+/// the headline holds of what the servers answer.
 pub fn servers_are_one_world()
     ensures run { (s t : State) (views ends : ℕ → View) (turns : List Turn) →
         AreTrails s views turns t ends → AreOneRun s turns t ends }

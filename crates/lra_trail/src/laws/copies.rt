@@ -1,5 +1,5 @@
-// Laws of what other nodes have of a node's facts: each function does nothing, and its contract is the
-// law.
+// Laws of what other nodes have of a node's facts. Each function does nothing, and its contract is
+// the law.
 ghost use Rattle.std.specs.Prelude.{◌≡◌, ◌≤◌, ◌<◌, ◌+◌, ℕ, Bool, List, length, true};
 ghost use Rattle.lra_id.specs.Fronts.{IsBelow, count};
 ghost use Rattle.lra_history.specs.Views.{View};
@@ -12,15 +12,15 @@ ghost use Rattle.lra_copies.specs.Spreads.{holders};
 ghost use Rattle.lra_trail.specs.Copies.{HearsEach, TakesIn, missed};
 ghost use Rattle.lra_trail.specs.NodeTrails.{IsPlayed, Item, trail_of};
 
-/// A frame that a node gives counts at least as many facts of each node as the node held at any moment
-/// before. So it has each fact that was stored before it was asked for.
+/// A frame that a node gives counts, for each node, at least as many facts as the giving node held
+/// at any earlier moment. So it has each fact that was stored before it was asked for.
 pub fn a_frame_has_what_was_stored_before_it()
     ensures { (me now : ℕ) (s t : State) (a b c : View) (items : List Item) (body : List ℕ) (delta : Frame) →
         IsPlayed me s a items t b → IsNext me b (Pull body) now (Gave delta) c → IsBelow a.front delta.front }
 {}
 
-/// A node holds what the frames counted that it gave and took, from then on: so what it tells by its
-/// next pull, which is what these counted, it has stored.
+/// From the moment a node gives or takes a frame, it holds what that frame counts. So it has stored
+/// what it tells by its next pull, which is what these frames counted.
 pub fn a_front_that_is_told_is_held()
     ensures gave { (me now : ℕ) (s t : State) (a b c : View) (items : List Item) (body : List ℕ) (delta : Frame) →
         IsNext me c (Pull body) now (Gave delta) a → IsPlayed me s a items t b → IsBelow delta.front b.front }
@@ -28,16 +28,16 @@ pub fn a_front_that_is_told_is_held()
         IsPlayed me s a items t b → TakesIn (trail_of items) delta → IsBelow delta.front b.front }
 {}
 
-/// Where as many other nodes as are wanted told that they have n facts of a node, and its trail takes a
-/// frame of each other but fewer than that, the node has its first n facts again, whatever it began
-/// with.
+/// A lost node gets its facts back. If at least `wanted` other nodes told that they have n facts of
+/// a node, and its trail takes a frame of all other nodes but fewer than `wanted`, the node has its
+/// first n facts again, whatever it began with.
 pub fn a_lost_node_takes_back_what_was_copied()
     ensures { (me wanted n : ℕ) (told : List ℕ) (heard : ℕ → Bool) (s t : State) (a b : View) (items : List Item) →
         IsPlayed me s a items t b → wanted ≤ holders me n told → missed me (length told) heard < wanted →
         HearsEach me heard told (trail_of items) → n ≤ count b.front me }
 {}
 
-/// Where it takes a frame of each other, the number that it gives next is new to all of them.
+/// If a node takes a frame of each other node, the next number that it gives is new to all of them.
 pub fn its_numbers_go_on()
     ensures { (me : ℕ) (told : List ℕ) (heard : ℕ → Bool) (s t : State) (a b : View) (items : List Item) →
         IsPlayed me s a items t b → ((node : ℕ) → (node ≡ me → ⊥) → heard node ≡ true) →

@@ -40,12 +40,14 @@ use lra_history::laws::rising::what_is_at_its_end_stays_there;
 use lra_progress::laws::{a_tree_goes_on_until_it_is_purged, nothing_is_stuck};
 use sqlite::Alter;
 
-/// Servers that are killed are servers that are not. At each node of the world is a server, and any
-/// may stop in any call, whose answer is lost; its next start finds the view before the call or
-/// behind it. Then all that happened is one run without a stop. It has each turn that was answered,
-/// in order, and each lost call is in it with some reply, or isn't. So the headline holds of what
-/// the servers answer. And the definition isn't empty: it holds of nothing that happened, and goes
-/// on with each turn and each lost call that can come next, as from each lost call the world does.
+/// Servers that are killed behave like servers that are not. Each node of the world is a server,
+/// which may stop in any call. The answer of that call is lost, and the next start finds the view
+/// before the call or after it. Then everything that happened is one run without a stop. That run
+/// has each answered turn, in order, and each lost call either is in it with some reply or isn't.
+/// So the headline holds of what the servers answer.
+///
+/// The definition isn't empty. It holds when nothing happened, and it goes on with each turn and
+/// each lost call that can come next, since the world goes on from each lost call.
 pub fn servers_with_crashes_are_one_world()
     ensures trails { (s t : State) (views ends : ℕ → View) (happened : List Happening) →
         AreTrailsWithCrashes s views happened t ends →
@@ -71,11 +73,12 @@ pub fn servers_with_crashes_are_one_world()
         (happened ++ Lost lost ∷ []) u (with_view ends lost.node lost.found) }
 {}
 
-/// A stop in a call is a lost call. The node's book kept the view of what the node holds, and it was
-/// stopped in a call, or its journal failed there. A start then finds rows that a stop may leave, by
-/// the clauses of the journal and of the book. What they stand for is what the next start of a lost
-/// call finds. That a frame of the call was sent is left to ask, and that the views keep the rules
-/// of rows; they do where the node's records and those behind the call have the types of records.
+/// A stop in a call is a lost call. The node's book kept the view of what the node holds, and it
+/// was stopped in a call, or its journal failed there. By the clauses of the journal and of the
+/// book, a start then finds rows that a stop may leave. They stand for what the next start of a
+/// lost call finds. Two premises remain: that a frame of the call was sent, and that the views keep
+/// the rules of rows. They keep them if the node's records, and those after the call, have the
+/// types of records.
 pub fn a_stop_in_a_call_is_a_lost_call<S: Alter>()
     ensures lost { (s : State) (old : BookState S) (asked : TheCall)
         (now : ℕ) (frame : Arrival) (left : Held S) (db : Trees) (found : View) →
@@ -95,8 +98,8 @@ pub fn a_stop_in_a_call_is_a_lost_call<S: Alter>()
     what_a_node_holds_keeps_the_rules();
 }
 
-/// A turn that can come makes a trail: alone at its node, or of all servers. So what is said of
-/// trails is said of something.
+/// A turn that can come makes a trail, of its node alone or of all servers. So what is said of
+/// trails is not empty.
 pub fn a_turn_that_can_come_is_a_trail()
     ensures played { (me : ℕ) (s : State) (a b : View) (entry : Entry) (frame : Arrival) →
         IsServed me s a → IsNext me a entry.call entry.moment entry.reply b →
@@ -107,12 +110,14 @@ pub fn a_turn_that_can_come_is_a_trail()
         (t : State) × AreTrails s views (turn ∷ []) t (with_view views turn.node b) }
 {}
 
-/// No crash loses a compensation. A participant is to compensate at its LRA's home, now or when its
-/// turn comes. Whatever servers do, and however often they are killed: its end was heard, or it is to
-/// compensate still, and one of its saga is on the home's list of calls. A home purges no tree before.
-/// So it is for one that was on the list itself where its home is killed in one call: by what the next
-/// start finds it is on the list still, or its end was heard, or it waits so in its saga, which a
-/// cancel above made greater.
+/// No crash loses a compensation. Suppose that a participant has to compensate at its LRA's home,
+/// now or when its turn comes. Then, whatever servers do and however often they are killed, either
+/// its end was heard, or it still has to compensate and a participant of its saga is on the home's
+/// list of calls. A home doesn't purge the tree before.
+///
+/// The same holds for a participant that was on the list itself when its home is killed in one
+/// call. By what the next start finds, it is still on the list, or its end was heard, or it waits
+/// in its saga, which a cancel above made greater.
 pub fn no_crash_loses_a_compensation()
     ensures each { (s t : State) (views ends : ℕ → View)
         (happened : List Happening) (node : ℕ) (l : Id) (m : ℕ) →
@@ -133,12 +138,12 @@ pub fn no_crash_loses_a_compensation()
     what_is_at_its_end_stays_there();
 }
 
-/// No call is lost. A call that was due is due still; or it was answered, or its LRA was
-/// purged; or a cancel overtook it, as an LRA above all those was cancelled that had been. A
-/// completion isn't called then. A compensation is still to be made: it waits in the greater saga,
-/// of which somebody is to be called now. So it is of two closed sets of one history, the one inside
-/// the other; at each node of the world, whatever happens; of servers that are killed; and of one
-/// lost call.
+/// No call is lost. A call that was due is still due, or it was answered, or its LRA was purged, or
+/// a cancel overtook it: an LRA was cancelled above all those that had been. After such a cancel, a
+/// completion isn't called. A compensation must still be made: it waits in the greater saga, of
+/// which a participant is to be called now. This holds for two closed sets of one history, one
+/// inside the other; at each node of the world, whatever happens; for servers that are killed; and
+/// for one lost call.
 pub fn no_call_is_lost()
     ensures sets { (h : History) (v w : List ℕ) (home : ℕ) (call : Duty) →
         IsLawful h → IsClosed h v → IsClosed h w → IsBelow v w →
@@ -160,10 +165,10 @@ pub fn no_call_is_lost()
     what_is_at_its_end_stays_there();
 }
 
-/// Only its answer, a cancel or a purge ends a call. What was due is due still, unless a fact was
-/// entered since that ends it: the answer to it, a purge of an LRA of its chain or, where it asks to
-/// act, a cancel of one. So it is of two closed sets, and of servers that are killed. A lost command
-/// ends a call only by its own fact: each other call is due still.
+/// Only its answer, a cancel or a purge ends a call. A call that was due is still due, unless a
+/// fact that ends it was entered since then: its answer, a purge of an LRA of its chain, or, if it
+/// asks to act, a cancel of one. This holds for two closed sets, and for servers that are killed. A
+/// lost command ends a call only by its own fact: each other call is still due.
 pub fn only_an_answer_a_cancel_or_a_purge_ends_a_call()
     ensures sets { (h : History) (v w : List ℕ) (home : ℕ) (call : Duty) →
         IsLawful h → IsClosed h v → IsClosed h w → IsBelow v w → IsDuty home (facts h v) call →
@@ -182,9 +187,9 @@ pub fn only_an_answer_a_cancel_or_a_purge_ends_a_call()
     what_is_at_its_end_stays_there();
 }
 
-/// A purge loses no call. Where an LRA was purged at its home since a call to one of its participants
-/// was on the home's list, the call was answered before; or it asked to complete, and the LRA was
-/// cancelled before.
+/// A purge loses no call. If a call was on a home's list, and the participant's LRA was purged at
+/// its home since then, the call was answered before the purge, or it asked to complete and the LRA
+/// was cancelled before.
 pub fn a_purge_loses_no_call()
     ensures { (s t : State) (views ends : ℕ → View)
         (happened : List Happening) (node : ℕ) (call : Duty) →

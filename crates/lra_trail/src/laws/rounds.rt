@@ -1,4 +1,4 @@
-//! Laws of rounds: what servers hold once each has heard of each other.
+//! Laws of rounds: what servers hold once each has heard from each other.
 ghost use Rattle.std.specs.Prelude.{◌≡◌, ◌≤◌, ◌<◌, ◌+◌, ℕ, List, false, length};
 ghost use Rattle.std.specs.List.{list_any};
 ghost use Rattle.lra_id.specs.Fronts.{count};
@@ -18,10 +18,11 @@ use lra_history::laws::rising::what_is_at_its_end_stays_there;
 use lra_progress::laws::{a_tree_goes_on_until_it_is_purged, what_is_under_way_can_be_ended};
 
 /// One round makes all servers alike. Each node of the world is a server. In these turns each node
-/// gives each other a frame, which takes it or counts already all that it counts: a server leaves
-/// out a frame of which nothing is new. Then each node counts at the end all that was entered
-/// before them, whatever is entered meanwhile (`brings`). Where nothing is, as where no command is
-/// accepted and no LRA expires, each counts all that was ever entered. So all hold one view.
+/// gives each other node a frame, which the other takes, unless it already counts everything that
+/// the frame counts: a server leaves out a frame that brings it nothing new. Then each node counts
+/// at the end everything that was entered before these turns, whatever is entered meanwhile
+/// (`brings`). If nothing is entered, because no command is accepted and no LRA expires, each node
+/// counts everything that was ever entered. So all hold the same view.
 pub fn one_round_makes_all_servers_alike()
     ensures brings { (s t : State) (views ends : ℕ → View) (turns : List Turn) (node from : ℕ) →
         AreTrails s views turns t ends → IsServerRound s turns ends → IsNode s node →
@@ -37,15 +38,16 @@ pub fn one_round_makes_all_servers_alike()
         t.history ≡ s.history }
 {}
 
-/// A round of servers can be made from each state, where what the nodes hold fits into frames: each
-/// node is asked for a frame since nothing, and each takes them all.
+/// A round of servers can be made from each state in which what the nodes hold fits into frames:
+/// each node is asked for a frame since nothing, and takes the frames of all others.
 pub fn a_round_of_servers_can_be_made()
     ensures { (s : State) (views : ℕ → View) → IsWorld s → AreServed s views →
         nodes_of s ≤ MAX_NODES → FitIntoFrames s views → HasServerRound s views }
 {}
 
 /// A round of calls can be made from each state in which an LRA is under way: answers alone lead to
-/// where the end of each call to act under it was heard. The node needs so many numbers.
+/// a state in which the end of each call to act under it was heard. The node needs that many
+/// numbers.
 pub fn a_round_of_calls_can_be_made()
     ensures { (s : State) (node : ℕ) (l : Id) →
         IsWorld s → IsNode s node → IsUnderWay (set_of s node) l →

@@ -1,4 +1,4 @@
-//! Laws of upgrades: a journal of version 1 is written anew as it is opened.
+//! Laws of upgrades: a journal of version 1 is rewritten when it is opened.
 ghost use Rattle.std.specs.Prelude.{◌≡◌, ℕ, List};
 ghost use Rattle.sqlite.specs.Tree.{Trees};
 ghost use Rattle.lra_history.specs.Views.{View};
@@ -7,12 +7,12 @@ ghost use Rattle.lra_trail.specs.Upgrades.{AreStopped, IsFoundIn, StoppedOpening
 use lra_journal::laws::rows_stand_for_one_view;
 use sqlite::Alter;
 
-/// An upgrade may be killed. A journal of either version is opened, and the program stops at any
-/// moment of that, any number of times. Then its rows still stand for the view for which they stood
-/// before, in version 1 or 2; and the next opening finds that view, and no other. Clauses `crash`
-/// and `crash_refused` of `lra_journal::Journal::open` say what an opening left, and `reads` what
-/// is found. That a stop within an opening leaves no more, and that the store which is opened then
-/// is a journal with the rows that were left, is the kit's word.
+/// An upgrade may be killed. Suppose that a journal of either version is opened and the program
+/// stops at any moment of that, any number of times. Then its rows still stand for the same view as
+/// before, in version 1 or 2, and the next opening finds that view and no other. The clauses
+/// `crash` and `crash_refused` of `lra_journal::Journal::open` say what an opening left, and
+/// `reads` says what is found. It is the kit's word that a stop within an opening leaves no more,
+/// and that the store which is opened then is a journal with the rows that were left.
 pub fn an_upgrade_may_be_killed<S: Alter>()
     ensures stands { (me nodes : ℕ) (before after : Trees)
         (openings : List (StoppedOpening S)) (view : View) →
