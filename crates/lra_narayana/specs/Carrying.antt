@@ -1,4 +1,4 @@
--- What a carried link says.
+-- The contents of a carried link.
 use Rattle.std.specs.Prelude.{◌≡◌, ◌==◌, ◌&&◌, ◌+◌, ◌%◌, ℕ, Bool, true, List, [], ◌∷◌, ◌++◌, Option, Some, None, Ok, is_some, codes, if◌then◌else◌, slice_index, string_bytes}
 use mathlib.Core.Bool.{not}
 use Rattle.std.specs.Fmt.{decimal}
@@ -16,7 +16,7 @@ use Rattle.lra_narayana.specs.declared.short.Short.{Short}
 use Rattle.lra_narayana.specs.Kinds.{letter_of, query_text}
 use Rattle.lra_narayana.specs.Seals.{seal}
 
--- what stands behind a text, where that stands first
+-- what follows a text's beginning, if the text has that beginning
 unfoldable pub behind : List ℕ → List ℕ → Option (List ℕ)
 behind [] bs = Some bs
 behind (x ∷ xs) [] = None
@@ -26,7 +26,7 @@ abbrev pub spelled_by : Short → List ℕ → Option (List ℕ) → List ℕ
 spelled_by short others None = others
 spelled_by short others (Some tail) = string_bytes short.long ++ tail
 
--- a rest spelled out: the first short form with which it begins stands for its long form
+-- a rest spelled out: the first short form with which it begins is replaced by its long form
 unfoldable pub spelled : List Short → List ℕ → List ℕ
 spelled [] rest = rest
 spelled (short ∷ shorts) rest = spelled_by short (spelled shorts rest) (behind (string_bytes short.short) rest)
@@ -35,7 +35,7 @@ abbrev pub shortened_by : Short → List ℕ → Option (List ℕ) → List ℕ
 shortened_by short others None = others
 shortened_by short others (Some tail) = string_bytes short.short ++ tail
 
--- a rest made short: the first long form with which it begins gives way to its short form
+-- a rest made short: the first long form with which it begins is replaced by its short form
 unfoldable pub shortened : List Short → List ℕ → List ℕ
 shortened [] rest = rest
 shortened (short ∷ shorts) rest = shortened_by short (shortened shorts rest) (behind (string_bytes short.long) rest)
@@ -47,14 +47,15 @@ pub record Carries (key : List ℕ) (shorts : List Short) (id : Id) (target : Li
   pub is : link ≡ codes "http://" ++ (spelled shorts rest ++ query_text kind form)
   pub says : target ≡ 47 ∷ letter_of kind form ∷ (seal key kind id link ++ (47 ∷ rest))
 
--- A participant can be called at an http URL with no user, password or fragment. A backslash (92) isn't carried: nodes write links
--- in JSON, which reads it otherwise.
+-- A participant can be called at an http URL with no user, password or fragment. A link with a
+-- backslash (92) isn't carried: nodes write links in JSON, where a backslash has another meaning.
 abbrev pub is_plain : Parts → Bool
 is_plain url =
     bytes_eq url.scheme (codes "http") && (is_empty url.username && (is_empty url.password && (not (is_some url.fragment)
     && not (list_any (λ b. b == 92) (serialize url)))))
 
--- an address of the loopback interface for a participant's host, by the first bytes of its digest: none ends with 0 or 255
+-- an address of the loopback interface for a participant's host, from the first bytes of the host's
+-- digest: no address ends with 0 or 255
 abbrev pub loopback_by : List ℕ → List ℕ
 loopback_by digest =
     codes "127." ++ (decimal (slice_index digest 0) ++ (codes "." ++ (decimal (slice_index digest 1) ++ (codes "." ++ decimal (slice_index digest 2 % 254 + 1)))))
@@ -64,15 +65,15 @@ abbrev pub host_for : Option (List ℕ) → List ℕ → List ℕ
 host_for None host = loopback_by (sha256 host)
 host_for (Some named) host = named
 
--- what stands before a carried link's target
+-- the part of a carried link before its target
 abbrev pub address_of : Option (List ℕ) → ℕ → Parts → List ℕ
 address_of named port own = codes "http://" ++ (host_for named (text_between own BeforeHost AfterPort) ++ (codes ":" ++ decimal port))
 
--- a text is one that `url` writes as it stands
+-- `url` writes the text unchanged
 abbrev pub IsWritten : List ℕ → Type 0
 IsWritten text = (url : Parts) × (parse_url None text ≡ Ok url) × (serialize url ≡ text)
 
--- a participant's link as it is written, where it can be called there
+-- the text is the link of a participant that can be called there
 abbrev pub IsOwn : List ℕ → Parts → Type 0
 IsOwn text own = (parse_url None text ≡ Ok own) × (is_plain own ≡ true)
 

@@ -7,12 +7,12 @@ use Rattle.httparse.specs.Grammar.{ChunkLine, IsChunkLine, chunk_size, print_chu
 abbrev pub crlf : List ℕ
 crlf = 13 ∷ 10 ∷ []
 
--- a line that says how many bytes follow it, and these bytes
+-- a line that states a size, and the bytes of that size behind it
 pub record Chunk : Type 0 where
   pub line : ChunkLine
   pub bytes : List ℕ
 
--- chunk = chunk-size [ chunk-ext ] CRLF chunk-data CRLF, of some bytes
+-- chunk = chunk-size [ chunk-ext ] CRLF chunk-data CRLF, with at least one byte of data
 pub record IsChunk (c : Chunk) : Type 0 where
   pub line : IsChunkLine c.line
   pub size : chunk_size c.line ≡ length c.bytes
@@ -28,7 +28,7 @@ chunk_bytes c = c.bytes
 abbrev pub IsLast : ChunkLine → Type 0
 IsLast l = IsChunkLine l × (chunk_size l ≡ 0)
 
--- a line up to its LF, which is not empty: of a trailer nothing else is asked
+-- a line up to its LF, which is not empty: nothing else is required of a trailer
 pub record IsTrailer (t : List ℕ) : Type 0 where
   pub one : AllByRecursion (λ b. b ≢ 10) t
   pub some : t ++ 10 ∷ [] ≢ crlf
@@ -40,7 +40,7 @@ trailer_text t = t ++ 10 ∷ []
 abbrev pub section_text : List (List ℕ) → List ℕ
 section_text trailers = flat_map trailer_text trailers ++ crlf
 
--- a body: its chunks, the last one, and the trailers
+-- a body: its chunks, the last chunk, and the trailers
 pub record Body : Type 0 where
   pub chunks : List Chunk
   pub last : ChunkLine
@@ -51,7 +51,7 @@ pub record IsBody (b : Body) : Type 0 where
   pub last : IsLast b.last
   pub trailers : AllByRecursion IsTrailer b.trailers
 
--- how it is written
+-- the body as a text
 abbrev pub body_text : Body → List ℕ
 body_text b = flat_map chunk_text b.chunks ++ (print_chunk_line b.last ++ section_text b.trailers)
 
@@ -59,25 +59,25 @@ body_text b = flat_map chunk_text b.chunks ++ (print_chunk_line b.last ++ sectio
 abbrev pub body_bytes : Body → List ℕ
 body_bytes b = flat_map chunk_bytes b.chunks
 
--- the text is a body in chunks of these bytes
+-- the text is a body in chunks, and these are the bytes of its chunks
 abbrev pub IsChunked : List ℕ → List ℕ → Type 0
 IsChunked bytes text = (b : Body) × IsBody b × (text ≡ body_text b) × (bytes ≡ body_bytes b)
 
--- The parts, as they are read
+-- The parts in the order in which they are read
 
--- a line, with its end
+-- a line, including its end
 abbrev pub IsLine : List ℕ → Type 0
 IsLine line = (t : List ℕ) × AllByRecursion (λ b. b ≢ 10) t × (line ≡ t ++ 10 ∷ [])
 
--- the line before so many bytes
+-- the line before a chunk of this size
 abbrev pub IsSizeLine : ℕ → List ℕ → Type 0
 IsSizeLine size line = (l : ChunkLine) × IsChunkLine l × (chunk_size l ≡ size) × (line ≡ print_chunk_line l)
 
--- chunks of these bytes
+-- chunks with these bytes
 abbrev pub AreChunks : List ℕ → List ℕ → Type 0
 AreChunks bytes text = (chunks : List Chunk) × AllByRecursion IsChunk chunks × (text ≡ flat_map chunk_text chunks) × (bytes ≡ flat_map chunk_bytes chunks)
 
--- trailers without what ends them
+-- trailers without the empty line that ends them
 abbrev pub AreTrailers : List ℕ → Type 0
 AreTrailers text = (trailers : List (List ℕ)) × AllByRecursion IsTrailer trailers × (text ≡ flat_map trailer_text trailers)
 

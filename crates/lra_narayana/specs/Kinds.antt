@@ -1,11 +1,11 @@
--- The names and methods of a participant's calls, and the letters for them in a carried link.
+-- The names and HTTP methods of a participant's calls, and the letters for them in a carried link.
 use Rattle.std.specs.Prelude.{ℕ, List, [], ◌++◌, codes}
 use Rattle.lra_narayana.specs.declared.kind.Kind.{Kind}
 use Rattle.lra_narayana.specs.declared.kind.Kind.TheVariants.{Compensate, Complete, Status, Forget, After}
 use Rattle.lra_narayana.specs.declared.kind.Query.{Query}
 use Rattle.lra_narayana.specs.declared.kind.Query.TheVariants.{Own, Jakarta, Javax}
 
--- a kind's name, as `rel` of a link has it
+-- a kind's name, as in `rel` of a link
 abbrev pub kind_name : Kind → List ℕ
 kind_name Compensate = codes "compensate"
 kind_name Complete = codes "complete"
@@ -13,7 +13,7 @@ kind_name Status = codes "status"
 kind_name Forget = codes "forget"
 kind_name After = codes "after"
 
--- the method of HTTP by which a participant is called
+-- the HTTP method with which a participant is called
 abbrev pub kind_method : Kind → List ℕ
 kind_method Compensate = codes "PUT"
 kind_method Complete = codes "PUT"
@@ -21,7 +21,7 @@ kind_method Status = codes "GET"
 kind_method Forget = codes "DELETE"
 kind_method After = codes "PUT"
 
--- what a form of query adds to a link: nothing, or the method's annotation
+-- the text that a form of query adds to a link: nothing, or the method's annotation
 unfoldable pub query_text : Kind → Query → List ℕ
 query_text kind Own = []
 query_text kind Jakarta = codes "?method=jakarta.ws.rs." ++ kind_method kind

@@ -4,15 +4,15 @@ use Rattle.lra_narayana.specs.declared.kind.Kind.{Kind}
 use Rattle.lra_narayana.specs.declared.kind.Kind.TheVariants.{Compensate, Complete, Status, Forget}
 use Rattle.lra_narayana.specs.declared.given.Given.{Given}
 
--- what a text ends with
+-- the text ends with this
 abbrev pub IsEnd : List ℕ → List ℕ → Type 0
 IsEnd text end = (front : List ℕ) × (text ≡ front ++ end)
 
--- a URL stands in a text between `<` (60) and `>` (62)
+-- the URL stands in the text between `<` (60) and `>` (62)
 abbrev pub IsGiven : List ℕ → List ℕ → Type 0
 IsGiven text url = (front : List ℕ) × (back : List ℕ) × (text ≡ front ++ (60 ∷ (url ++ (62 ∷ back))))
 
--- each link was given by a text
+-- the text gives each of these links
 abbrev pub AreGiven : List ℕ → List Given → Type 0
 AreGiven text [] = ⊤
 AreGiven text (link ∷ links) = IsGiven text (string_bytes link.url) × AreGiven text links
@@ -21,7 +21,7 @@ AreGiven text (link ∷ links) = IsGiven text (string_bytes link.url) × AreGive
 abbrev pub said_by : Given → Kind × List ℕ
 said_by link = (link.kind, string_bytes link.url)
 
--- the links of which a plain URL is the base
+-- the links that a plain URL stands for
 abbrev pub of_base : List ℕ → List (Kind × List ℕ)
 of_base base = (Compensate, base ++ codes "/compensate") ∷ (Complete, base ++ codes "/complete") ∷ (Status, base) ∷ (Forget, base) ∷ []
 

@@ -9,11 +9,11 @@ use Rattle.lra_id.specs.Ids.{Id, IsId, IsTextOf, text_of}
 abbrev pub url_of : List ℕ → Id → List ℕ
 url_of base id = base ++ (codes "/lra-coordinator/" ++ text_of id)
 
--- where services find a participant
+-- the URL at which services find a participant
 abbrev pub recovery_of : List ℕ → Id → ℕ → List ℕ
 recovery_of base id member = base ++ (codes "/lra-coordinator/recovery/" ++ (text_of id ++ (codes "/" ++ decimal member)))
 
--- what stands before the first `?` (63)
+-- the part before the first `?` (63)
 unfoldable pub path_of : List ℕ → List ℕ
 path_of [] = []
 path_of (b ∷ bs) = if b == 63 then [] else b ∷ path_of bs
@@ -22,15 +22,15 @@ abbrev pub without_first_slashes : List ℕ → List ℕ
 without_first_slashes [] = []
 without_first_slashes (b ∷ bs) = if b == 47 then without_first_slashes bs else b ∷ bs
 
--- without the slashes at its end
+-- the text without the slashes at its end
 abbrev pub without_slashes : List ℕ → List ℕ
 without_slashes bs = reverse (without_first_slashes (reverse bs))
 
--- a slash or a colon parts a name from what stands before it
+-- a slash or a colon separates a name from what stands before it
 abbrev pub is_parting : ℕ → Bool
 is_parting b = (b == 47) || (b == 58)
 
--- the longest end without one
+-- the longest end of a text without a slash or colon
 unfoldable pub last_part : List ℕ → List ℕ
 last_part [] = []
 last_part (b ∷ bs) = if list_any is_parting (b ∷ bs) then last_part bs else b ∷ bs
@@ -39,10 +39,10 @@ last_part (b ∷ bs) = if list_any is_parting (b ∷ bs) then last_part bs else 
 abbrev pub name_in : List ℕ → List ℕ
 name_in text = last_part (without_slashes (path_of text))
 
--- a text names an id: escaped once by a client and once by its HTTP library, or less
+-- a text names an id: unescaped, escaped once by a client, or escaped once more by its HTTP library
 abbrev pub Names : List ℕ → Id → Type 0
 Names text id = IsId id × IsTextOf (name_in (percent_decode (percent_decode text))) id
 
--- a base has no `%` (37) and no `?` (63), of which escapes and queries are made
+-- a base has no `%` (37), which begins escapes, and no `?` (63), which begins queries
 abbrev pub IsBaseUrl : List ℕ → Type 0
 IsBaseUrl base = list_any (λ b. (b == 37) || (b == 63)) base ≡ false

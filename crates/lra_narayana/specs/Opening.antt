@@ -1,4 +1,4 @@
--- What opening answers.
+-- The result of opening a link.
 use Rattle.std.specs.Prelude.{◌≡◌, ℕ, List, Option, Some, None, string_bytes}
 use Rattle.lra_narayana.specs.declared.kind.Kind.{Kind}
 use Rattle.lra_narayana.specs.declared.carried.Opened.{Opened}

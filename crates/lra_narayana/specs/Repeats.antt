@@ -1,4 +1,4 @@
--- Which calls of a node are made again, after what came of them.
+-- Which calls of a node are repeated, given their outcome.
 use Rattle.std.specs.Prelude.{⊤, Bool, true, false}
 use Rattle.lra_narayana.specs.declared.repeat.Came.{Came}
 use Rattle.lra_narayana.specs.declared.repeat.Came.TheVariants as came
@@ -14,19 +14,19 @@ MayBeMade came.Unsent = ⊥
 MayBeMade came.Unheard = ⊤
 MayBeMade came.NoMemory = ⊥
 
--- one that was not sent is sent, but a begin, which goes to another node
+-- A call that wasn't sent is repeated, except a begin, which goes to another node.
 abbrev pub is_again_unsent : Repeat → Bool
 is_again_unsent calls.Never = false
 is_again_unsent calls.Unsent = true
 is_again_unsent calls.Always = true
 
--- one that may have been made is made again if that does no harm
+-- A call that may have been made is repeated if that does no harm.
 abbrev pub is_harmless : Repeat → Bool
 is_harmless calls.Never = false
 is_harmless calls.Unsent = false
 is_harmless calls.Always = true
 
--- a call that came to this is made again
+-- a call with this outcome is repeated
 abbrev pub is_again : Came → Repeat → Bool
 is_again came.DidNothing repeat = true
 is_again came.Unsure repeat = is_harmless repeat

@@ -1,4 +1,4 @@
--- What a participant says by its answer, and what a node is told of it.
+-- What a participant says by its answer, and what a node is told about it.
 use Rattle.std.specs.Prelude.{◌≡◌, ◌==◌, ◌||◌, ◌&&◌, ◌-◌, ◌⊎◌, ⊤, ℕ, Bool, List, [], ◌∷◌, Option, Some, None, if◌then◌else◌, length, nat_le, reverse, slice_index, slice_range}
 use Rattle.lra_id.specs.declared.status.MemberStatus.{MemberStatus}
 use Rattle.lra_id.specs.declared.status.MemberStatus.TheVariants as word
@@ -21,15 +21,15 @@ without_leading (b ∷ bs) = if is_blank b then without_leading bs else b ∷ bs
 abbrev pub without_trailing : List ℕ → List ℕ
 without_trailing bs = reverse (without_leading (reverse bs))
 
--- it begins and ends with a double quote, and these are two
+-- the text begins and ends with a double quote, and these are two different ones
 abbrev pub is_quoted : List ℕ → Bool
 is_quoted bs = nat_le 2 (length bs) && ((slice_index bs 0 == 34) && (slice_index bs (length bs - 1) == 34))
 
--- without one pair of double quotes round it
+-- the text without one pair of double quotes around it
 abbrev pub unquoted : List ℕ → List ℕ
 unquoted bs = if is_quoted bs then slice_range bs 1 (length bs - 1) else bs
 
--- the name that a body has between blanks and quotes
+-- the name in a body, without blanks and quotes around it
 abbrev pub bare : List ℕ → List ℕ
 bare bs = unquoted (without_trailing (without_leading bs))
 
@@ -39,25 +39,26 @@ bare bs = unquoted (without_trailing (without_leading bs))
 abbrev pub plain : ℕ → Told
 plain code = record { code = code; word = None }
 
--- a node calls again
+-- the node calls again
 abbrev pub again : Told
 again = plain 503
 
--- a code, and what a node is told of it
+-- a code, and what a node is told for it
 pub record Row : Type 0 where
   pub code : ℕ
   pub told : Told
 
--- what a table says of a code: again of one that is not in it
+-- what a table has for a code; if the code is not in it, the node calls again
 abbrev pub told_in : List Row → ℕ → Told
 told_in [] n = again
 told_in (row ∷ rows) n = if n == row.code then row.told else told_in rows n
 
--- the code itself is told
+-- the node is told the code itself
 abbrev pub passed : ℕ → Row
 passed code = record { code = code; told = plain code }
 
--- by each word in the answer to compensate: done, going on and failed by those of this act alone
+-- for each word in the answer to compensate: only the words of this act mean that it is done, goes
+-- on or failed
 abbrev pub told_compensate : MemberStatus → Told
 told_compensate word.Compensated = plain 200
 told_compensate word.Compensating = plain 202
@@ -67,7 +68,7 @@ told_compensate word.Completing = again
 told_compensate word.Completed = again
 told_compensate word.FailedToComplete = again
 
--- by each word in the answer to complete
+-- for each word in the answer to complete
 abbrev pub told_complete : MemberStatus → Told
 told_complete word.Completed = plain 200
 told_complete word.Completing = plain 202
@@ -77,12 +78,12 @@ told_complete word.Compensating = again
 told_complete word.Compensated = again
 told_complete word.FailedToCompensate = again
 
--- done, where no word says otherwise
+-- the act is done, unless a word says otherwise
 abbrev pub told_by_word : (MemberStatus → Told) → Option MemberStatus → Told
 told_by_word told None = plain 200
 told_by_word told (Some w) = told w
 
--- to complete and to compensate
+-- for calls to complete and to compensate
 abbrev pub act_rows : Told → List Row
 act_rows good =
     record { code = 200; told = good }
@@ -93,20 +94,20 @@ act_rows good =
     ∷ passed 410
     ∷ []
 
--- a status is told by its word
+-- the node is told a status by its word
 abbrev pub told_word : Option MemberStatus → Told
 told_word None = again
 told_word (Some w) = record { code = 200; word = Some w }
 
--- to the question for the status
+-- for the question about the status
 abbrev pub status_rows : Told → List Row
 status_rows good = record { code = 200; told = good } ∷ passed 202 ∷ passed 404 ∷ passed 410 ∷ []
 
--- to forget, and to hear that the LRA has ended
+-- for calls to forget, and for notices that the LRA has ended
 abbrev pub passed_rows : List Row
 passed_rows = passed 200 ∷ passed 202 ∷ passed 204 ∷ passed 404 ∷ passed 410 ∷ []
 
--- of a whole answer
+-- what a node is told about a whole answer
 abbrev pub told_of_whole : Kind → ℕ → Option MemberStatus → Told
 told_of_whole Compensate code word = told_in (act_rows (told_by_word told_compensate word)) code
 told_of_whole Complete code word = told_in (act_rows (told_by_word told_complete word)) code
@@ -156,7 +157,8 @@ IsFailedWord After w = ⊥
 abbrev pub IsGood : ℕ → Type 0
 IsGood code = (code ≡ 200) ⊎ (code ≡ 204)
 
--- it said that the act is done: by 410, or by 200 or 204 with the word for it or with none
+-- the participant said that the act is done: by 410, or by 200 or 204 with the word for it or
+-- without a word
 abbrev pub SaysDone : Kind → Answer → Type 0
 SaysDone kind (Whole code None) = (code ≡ 410) ⊎ IsGood code
 SaysDone kind (Whole code (Some w)) = (code ≡ 410) ⊎ (IsGood code × IsDoneWord kind w)
@@ -164,7 +166,7 @@ SaysDone kind Broken = ⊥
 SaysDone kind Unreached = ⊥
 SaysDone kind Late = ⊥
 
--- it said that the act goes on: by 202, or by 200 or 204 with the word for it
+-- the participant said that the act goes on: by 202, or by 200 or 204 with the word for it
 abbrev pub SaysBusy : Kind → Answer → Type 0
 SaysBusy kind (Whole code None) = code ≡ 202
 SaysBusy kind (Whole code (Some w)) = (code ≡ 202) ⊎ (IsGood code × IsBusyWord kind w)
@@ -172,7 +174,7 @@ SaysBusy kind Broken = ⊥
 SaysBusy kind Unreached = ⊥
 SaysBusy kind Late = ⊥
 
--- it said that the act failed: by 409, or by 200 or 204 with the word for it
+-- the participant said that the act failed: by 409, or by 200 or 204 with the word for it
 abbrev pub SaysFailed : Kind → Answer → Type 0
 SaysFailed kind (Whole code None) = code ≡ 409
 SaysFailed kind (Whole code (Some w)) = (code ≡ 409) ⊎ (IsGood code × IsFailedWord kind w)
@@ -180,6 +182,6 @@ SaysFailed kind Broken = ⊥
 SaysFailed kind Unreached = ⊥
 SaysFailed kind Late = ⊥
 
--- a node hears this code, of a call to complete or to compensate, as done
+-- a node takes this code, for a call to complete or to compensate, to mean that the act is done
 abbrev pub IsHeardDone : ℕ → Type 0
 IsHeardDone code = (code ≡ 200) ⊎ ((code ≡ 204) ⊎ (code ≡ 410))

@@ -7,7 +7,8 @@ use Rattle.lra_id.specs.Ids.{Id, text_of}
 use Rattle.lra_narayana.specs.declared.kind.Kind.{Kind}
 use Rattle.lra_narayana.specs.Kinds.{kind_name}
 
--- a key's 32 bytes, each xor one byte, and that byte itself up to the 64 bytes of a block of SHA-256
+-- a key's 32 bytes, each xor the mask, followed by the mask itself up to the 64 bytes of a block of
+-- SHA-256
 abbrev pub pad : ℕ → List ℕ → List ℕ
 pad mask key = map (λ b. bit_xor b mask) key ++ replicate 32 mask
 
@@ -15,10 +16,11 @@ pad mask key = map (λ b. bit_xor b mask) key ++ replicate 32 mask
 unfoldable pub hmac : List ℕ → List ℕ → List ℕ
 hmac key message = sha256 (pad 92 key ++ sha256 (pad 54 key ++ message))
 
--- what is sealed: the kind's name, the LRA and the participant's whole link, parted by ends of lines
+-- the text that is sealed: the kind's name, the LRA and the participant's whole link, separated by
+-- ends of lines
 abbrev pub sealed_text : Kind → Id → List ℕ → List ℕ
 sealed_text kind id link = kind_name kind ++ (10 ∷ (text_of id ++ (10 ∷ link)))
 
--- the first six bytes of their HMAC as eight letters
+-- the first six bytes of the HMAC, as eight letters
 unfoldable pub seal : List ℕ → Kind → Id → List ℕ → List ℕ
 seal key kind id link = encode_of url_safe_no_pad (take 6 (hmac key (sealed_text kind id link)))

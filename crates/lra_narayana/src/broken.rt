@@ -1,11 +1,11 @@
-// Why no whole message came.
+// The reasons why a message wasn't read whole.
 
 use std::alloc::{AllocError, AllocFailed};
 
-/// Why no whole message came.
+/// Why a message wasn't read whole.
 #[derive(Clone, Copy, PartialEq, Eq, Debug)]
 pub enum Broken {
-    /// It was cut, is none, or is too long.
+    /// It was cut off, is malformed, or is too long.
     Bad,
     NoMemory,
 }

@@ -1,4 +1,4 @@
-// Links that carry a participant's own, sealed: http://VIA/KSEAL/REST.
+// Links that carry a participant's own link, with a seal: http://VIA/KSEAL/REST.
 ghost use Rattle.std.specs.Prelude.{◌≡◌, ◌≢◌, ◌≤◌, ◌+◌, ◌++◌, ℕ, List, IfErr, IfOk, IfSome, MatchOption, None, Some, Err, ◌∷◌, length, option_map, string_bytes};
 ghost use Rattle.url.specs.Parts.{Parts, serialize};
 ghost use Rattle.lra_narayana.specs.Kinds.{query_text};
@@ -17,18 +17,18 @@ use sha2::{Digest, Sha256};
 use std::alloc::{AllocError, Global};
 use url::{ParseError, Position, Url};
 
-/// The most bytes of a link that a node keeps.
+/// The most bytes of a link that a node stores.
 pub const MOST_LINK: usize = 127;
 
-/// How many bytes stand between two slashes at the front of a target: the letter, and the eight of
-/// the seal.
+/// The number of bytes between the first two slashes of a target: the letter, and the eight of the
+/// seal.
 const HEAD: usize = 9;
 
-/// Where nodes reach the gateway.
+/// The address at which nodes reach the gateway.
 #[derive(Drop)]
 pub struct Via {
-    /// The host, or none where each host of participants has an address of its own of the loopback
-    /// interface, since a node gives each host its turn.
+    /// The host. If `None`, each host of participants has its own address of the loopback
+    /// interface, because a node gives each host its turn.
     pub host: Option<String>,
     pub port: u16,
 }
@@ -38,19 +38,19 @@ pub struct Via {
 pub enum Uncarried {
     /// Memory ran out.
     NoMemory,
-    /// It is no URL, or none at which a participant can be called.
+    /// It is no URL, or no URL at which a participant can be called.
     Unfit,
-    /// The carried link would have this many bytes more than 127.
+    /// The carried link would exceed 127 bytes by this many.
     TooLong(usize),
-    /// The short forms are ambiguous, or `url` would write the carried link otherwise than it stands.
+    /// The short forms are ambiguous, or `url` would write the carried link differently.
     Unwritten,
 }
 
-/// A participant's link, as it was carried.
+/// A participant's own link, read back out of a carried link.
 #[derive(Drop)]
 pub struct Opened {
     pub kind: Kind,
-    /// As `url` writes it.
+    /// The link as `url` writes it.
     pub link: String,
 }
 
@@ -64,7 +64,7 @@ fn is_plain(url: &Url) -> bool
         && !url.as_str().as_bytes().contains(&b'\\')
 }
 
-/// The URL of a participant's link.
+/// Parses a participant's link as a URL at which it can be called.
 fn own_of(alloc: Global, link: &str) -> Result<Url, Uncarried>
     ensures own { IfOk result (λ own. IsOwn link.now own) }
     ensures refused { IfErr result (λ e. e ≢ uncarried.NoMemory →
@@ -77,7 +77,7 @@ fn own_of(alloc: Global, link: &str) -> Result<Url, Uncarried>
     }
 }
 
-/// The form of a link's query, and the link without a query that the form adds.
+/// Returns the form of a link's query, and the link without the query that this form adds.
 fn form_of(kind: Kind, link: &str) -> (Query, &str)
     ensures parts { link.now ≡ result.1.now ++ query_text kind result.0 }
     ensures own { result.0 ≡ Own → (front : List ℕ) →
@@ -92,7 +92,7 @@ fn form_of(kind: Kind, link: &str) -> (Query, &str)
     (Query::Own, link)
 }
 
-/// The address at which a node finds the gateway for a participant's host.
+/// Returns the host at which a node reaches the gateway for a participant's host.
 fn host_for(alloc: Global, named: &Option<String>, host: &str) -> Result<String, AllocError>
     ensures { IfOk result (λ text. string_bytes text ≡ host_for (option_map string_bytes named.now) host.now) }
 {
@@ -104,7 +104,7 @@ fn host_for(alloc: Global, named: &Option<String>, host: &str) -> Result<String,
     format!(in alloc; "127.{a}.{b}.{c}")
 }
 
-/// The target that carries a link; none where the short forms are ambiguous.
+/// Returns the target that carries a link, or `None` if the short forms are ambiguous.
 fn target_of(
     alloc: Global,
     key: &Key,
@@ -131,7 +131,7 @@ fn target_of(
     Ok(Some(target))
 }
 
-/// Why a carried link can't be given to a node; nothing where it can.
+/// Returns why a carried link can't be given to a node, or `None` if it can.
 fn fault_in(alloc: Global, text: &str) -> Option<Uncarried>
     ensures good { result ≡ None → (length text.now ≤ MOST_LINK) × IsWritten text.now }
     ensures long { (bytes : ℕ) → result ≡ Some (uncarried.TooLong bytes) →
@@ -142,7 +142,7 @@ fn fault_in(alloc: Global, text: &str) -> Option<Uncarried>
     if text.len() > MOST_LINK {
         return Some(Uncarried::TooLong(text.len() - MOST_LINK));
     }
-    // A node keeps a link as `url` writes it, and so it has to be written already.
+    // A node stores a link as `url` writes it, so the link must already be written that way.
     match Url::parse(alloc, text) {
         Ok(url) if is_same(url.as_str().as_bytes(), text.as_bytes()) => None,
         Err(ParseError::OutOfMemory | ParseError::Overflow) => Some(Uncarried::NoMemory),
@@ -150,7 +150,8 @@ fn fault_in(alloc: Global, text: &str) -> Option<Uncarried>
     }
 }
 
-/// A carried link, whether or not a node can keep it; none where the short forms are ambiguous.
+/// Returns a carried link, whether or not a node can store it, or `None` if the short forms are
+/// ambiguous.
 fn written(
     alloc: Global,
     key: &Key,
@@ -174,9 +175,9 @@ fn written(
     Ok(Some(text))
 }
 
-/// The link that a node is given for a participant's own link, of this kind and in this LRA. It has
-/// at most 127 bytes, and `url` writes it as it stands, since a node keeps what `url` writes. The
-/// first of the short forms that fits is taken, so give the longest first.
+/// Returns the link that a node is given in place of a participant's own link of this kind, in this
+/// LRA. It has at most 127 bytes, and `url` writes it unchanged, because a node stores what `url`
+/// writes. The first short form that fits is taken, so list the longest first.
 pub fn carry(
     alloc: Global,
     key: &Key,
@@ -190,7 +191,7 @@ pub fn carry(
         shorts.now kind id link.now (string_bytes text)) }
     ensures short { IfOk result (λ text. length (string_bytes text) ≤ MOST_LINK) }
     ensures written { IfOk result (λ text. IsWritten (string_bytes text)) }
-    // It is refused as too long by what it has too much.
+    // The number in `TooLong` says by how much the carried link is too long.
     ensures long { (bytes : ℕ) → result ≡ Err (uncarried.TooLong bytes) → (1 ≤ bytes) × ((text : List ℕ)
         × IsCarrying key.now.bytes (option_map string_bytes via.now.host) via.now.port shorts.now kind id link.now text
         × (length text ≡ MOST_LINK + bytes)) }
@@ -210,7 +211,8 @@ pub fn carry(
     }
 }
 
-/// The letter, the seal and the rest of a target; none where it isn't so parted.
+/// Splits a target into the letter, the seal and the rest. Returns `None` if it doesn't have these
+/// parts.
 fn parts_of(target: &str) -> Option<(u8, &[u8], &str)>
     ensures { MatchOption result ((letter : ℕ) (seal rest : List ℕ) → length seal ≡ 8 →
         target.now ≢ 47 ∷ letter ∷ (seal ++ 47 ∷ rest))
@@ -229,13 +231,14 @@ fn parts_of(target: &str) -> Option<(u8, &[u8], &str)>
     Some((head[0], &head[1..], rest))
 }
 
-/// The participant's own link that a target carries, sealed by this key for this LRA. None where it
-/// carries none: then the call isn't forwarded. What is proved is that a target opens just where it
-/// is one that `carry` makes of that link under this key, for this LRA and with the seal that belongs
-/// to it. That nobody without the key can write that seal is no theorem, but what is believed of HMAC.
+/// Returns the participant's own link that a target carries, sealed by this key for this LRA.
+/// Returns `None` if it carries none; then the call isn't forwarded. It is proved that a target
+/// opens if and only if it is one that `carry` makes of that link under this key, for this LRA and
+/// with the seal that belongs to it. It isn't proved that nobody can write that seal without the
+/// key: that is an assumption about HMAC.
 ///
-/// The seal is of the whole link, so a changed table of short forms leads nowhere else: a target is
-/// then refused.
+/// The seal is over the whole link, so a target can't lead elsewhere after the table of short forms
+/// has changed: it is refused.
 pub fn open(
     alloc: Global,
     key: &Key,

@@ -1,4 +1,4 @@
-// A body in chunks.
+// Bodies in chunks.
 ghost use Rattle.std.specs.Prelude.{◌≡◌, ℕ, ◌<◌, ◌≤◌, List, [], ◌++◌, MatchBool, length, IfOk, IfSome, OnOk, Some};
 ghost use Rattle.lra_http.specs.Streams.{Gives, GivesWhat, too_many_interrupted};
 ghost use Rattle.lra_http.specs.Bodies.{max_body_bytes};
@@ -9,10 +9,10 @@ use httparse::{Status, parse_chunk_size};
 use lra_http::{MAX_BODY_BYTES, MAX_HEAD_LINES, Source, read_byte};
 use std::alloc::Global;
 
-/// The most bytes of a line before a chunk, or of a trailer, with its end.
+/// The most bytes of a line before a chunk, or of a trailer, including its end.
 pub const MAX_LINE_BYTES: usize = 1024;
 
-/// The next line, with its end.
+/// Reads the next line, including its end.
 fn read_line<S: Source>(
     alloc: Global,
     source: &mut S,
@@ -37,7 +37,7 @@ fn read_line<S: Source>(
     Err(Broken::Bad)
 }
 
-/// The next bytes, so many.
+/// Reads the next `size` bytes.
 pub(crate) fn read_bytes<S: Source>(
     alloc: Global,
     source: &mut S,
@@ -60,14 +60,15 @@ pub(crate) fn read_bytes<S: Source>(
     Ok(bytes)
 }
 
-/// Whether a line is empty but for its end.
+/// Whether a line has nothing but its end.
 fn is_empty(line: &[u8]) -> bool
     ensures { MatchBool result (line.now ≡ crlf) (line.now ≡ crlf → ⊥) }
 {
     line == b"\r\n".as_slice()
 }
 
-/// How many bytes follow this line, at most so many.
+/// Returns how many bytes follow this line, or `None` if the line is malformed or they are more
+/// than `most`.
 fn size_in(line: &[u8], most: usize) -> Option<usize>
     ensures line { IfSome result (λ size. IsSizeLine size line.now) }
     ensures most { IfSome result (λ size. size ≤ most) }
@@ -81,7 +82,7 @@ fn size_in(line: &[u8], most: usize) -> Option<usize>
     Some(size as usize)
 }
 
-/// Reads the line before a chunk: how many bytes follow, at most so many.
+/// Reads the line before a chunk and returns how many bytes follow, at most `most`.
 fn read_size<S: Source>(
     alloc: Global,
     source: &mut S,
@@ -101,7 +102,7 @@ fn read_size<S: Source>(
     }
 }
 
-/// Reads the bytes of a chunk, so many, with the end of the line behind them.
+/// Reads the `size` bytes of a chunk, and the end of line behind them.
 fn read_data<S: Source>(
     alloc: Global,
     source: &mut S,
@@ -122,7 +123,7 @@ fn read_data<S: Source>(
     Ok(bytes)
 }
 
-/// Reads the trailers, which aren't looked at, and the empty line behind them.
+/// Skips the trailers and reads the empty line behind them.
 fn skip_trailers<S: Source>(
     alloc: Global,
     source: &mut S,
@@ -144,19 +145,21 @@ fn skip_trailers<S: Source>(
     Err(Broken::Bad)
 }
 
-/// Reads a body in chunks (RFC 9112, section 7.1) of at most 65,536 bytes, in lines of at most 1,024
-/// and with less than 64 trailers, and no byte more. A size is at most 16 digits long.
+/// Reads a body in chunks (RFC 9112, section 7.1), and no byte beyond it. The body has at most
+/// 65,536 bytes, each line at most 1,024, and there are fewer than 64 trailers. A size has at most
+/// 16 digits.
 pub fn read_chunks<S: Source>(
     alloc: Global,
     source: &mut S,
     interrupted: &mut u16,
 ) -> Result<Vec<u8>, Broken>
     requires below { interrupted.old < too_many_interrupted }
-    // What is given is one whole body, and its chunks' bytes are the result.
+    // The bytes read are one whole body, and the result is the bytes of its chunks.
     ensures body { IfOk result (λ body.
         GivesWhat (S.stream source.old) (S.stream source.new) (IsChunked body.items)) }
     ensures most { IfOk result (λ body. length body.items ≤ max_body_bytes) }
-    // Of a text that is known it reads just that body, and of one that is cut none.
+    // If the text is known to begin with a body, exactly that body is read; if it is cut off, none
+    // is.
     ensures exact { IfOk result (λ body. (bytes text rest : List ℕ) → IsChunked bytes text →
         (S.stream source.old).left ≡ Some (text ++ rest) →
         (body.items ≡ bytes) × ((S.stream source.new).left ≡ Some rest)) }
@@ -177,7 +180,7 @@ pub fn read_chunks<S: Source>(
     }
 }
 
-/// A text begins with at most one body in chunks, and no front of one is another.
+/// A text begins with at most one body in chunks, and no body is the beginning of another.
 pub fn one_body()
     ensures { (a b s t x y : List ℕ) → IsChunked a s → IsChunked b t → s ++ x ≡ t ++ y →
         (a ≡ b) × (s ≡ t) × (x ≡ y) }

@@ -1,4 +1,4 @@
-// The fields of a head.
+// The fields of a message's head.
 ghost use Rattle.std.specs.Prelude.{◌≡◌, ◌≤◌, List, ℕ, ◌∷◌, [], ◌++◌, IfOk, IfSome, IsTrue, All, length, map, slice_index};
 ghost use Rattle.lra_http.specs.Bodies.{max_body_bytes};
 ghost use Rattle.lra_http.specs.HeadFields.{IsFound, values};
@@ -15,18 +15,18 @@ use std::alloc::Global;
 pub enum Framing {
     Length(usize),
     Chunks,
-    /// With the connection, so that a cut one can't be told from a whole one.
+    /// It ends with the connection, so a body that was cut off looks like a whole one.
     End,
 }
 
-/// Whether a text has no plus at its front, which `parse` would pass over.
+/// Whether a text doesn't begin with a plus sign, which `parse` would accept.
 fn is_unsigned(text: &[u8]) -> bool
     ensures { IsTrue result → slice_index text.now 0 ≡ 43 → ⊥ }
 {
     text.is_empty() || text[0] != b'+'
 }
 
-/// The length that a text states, if it is within the limit.
+/// Returns the length that a text states, if it is within the limit.
 fn length_in(text: &[u8]) -> Option<usize>
     ensures most { IfSome result (λ size. size ≤ max_body_bytes) }
     ensures length { IfSome result (λ size. IsLength text.now size) }
@@ -43,7 +43,8 @@ fn length_in(text: &[u8]) -> Option<usize>
     }
 }
 
-/// How the body ends as the fields say, or so where they don't say; nothing where they say it badly.
+/// Returns how the body ends by the fields, or `unsaid` if they don't say. Returns `None` if the
+/// fields are invalid.
 pub(crate) fn framing_in(head: &[u8], headers: &[HeaderSpan], unsaid: Framing) -> Option<Framing>
     requires { All (IsHeaderWithin (length head.now)) headers.now }
     ensures { IfSome result (λ framing.
@@ -68,7 +69,7 @@ pub(crate) fn framing_in(head: &[u8], headers: &[HeaderSpan], unsaid: Framing) -
     }
 }
 
-/// These bytes as a text.
+/// Returns these bytes as a text.
 pub(crate) fn text_of(alloc: Global, bytes: &[u8]) -> Result<String, Broken>
     ensures { IfOk result (λ text. text.bytes.items ≡ bytes.now) }
 {
@@ -78,7 +79,7 @@ pub(crate) fn text_of(alloc: Global, bytes: &[u8]) -> Result<String, Broken>
     }
 }
 
-/// The last value of a field of this name, in whichever case; empty where there is none.
+/// Returns the value of the last field of this name, ignoring case; empty if there is none.
 pub(crate) fn value_in(
     alloc: Global,
     head: &[u8],

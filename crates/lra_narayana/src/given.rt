@@ -14,7 +14,7 @@ pub struct Given {
     pub url: String,
 }
 
-/// Where the first comma is that stands in no quotes, or the length of the text.
+/// Returns the place of the first comma outside quotes, or the length of the text if there is none.
 fn comma_in(text: &[u8]) -> usize
     ensures { result ≤ length text.now }
 {
@@ -30,7 +30,7 @@ fn comma_in(text: &[u8]) -> usize
     text.len()
 }
 
-/// What a parameter says, if it has this name.
+/// Returns the value of a parameter, if it has this name.
 fn said<'a>(parameter: &'a str, name: &str) -> Option<&'a str> {
     let (key, value) = parameter.split_once('=')?;
     if key.trim() != name {
@@ -39,7 +39,7 @@ fn said<'a>(parameter: &'a str, name: &str) -> Option<&'a str> {
     Some(value.trim().trim_matches('"'))
 }
 
-/// The kind that the parameters of a link name.
+/// Returns the kind that the parameters of a link name.
 fn kind_in(parameters: &str) -> Option<Kind> {
     for parameter in parameters.split(';') {
         if let Some(rel) = said(parameter, "rel") {
@@ -58,7 +58,7 @@ fn has(links: &[Given], kind: Kind) -> bool {
     false
 }
 
-/// One link: its URL, its parameters, and what follows.
+/// Splits off the first link: returns its URL, its parameters, and the text behind it.
 fn first_in(text: &str) -> Option<(&str, &str, &str)>
     ensures { IfSome result (λ p. IsGiven text.now p.0.now × IsEnd text.now p.2.now) }
 {
@@ -78,7 +78,7 @@ fn made(alloc: Global, kind: Kind, base: &str, tail: &str) -> Result<Given, Allo
     Ok(Given { kind, url })
 }
 
-/// Adds a link, unless it has no kind or one that is there.
+/// Adds a link, unless it has no kind or there is already a link of its kind.
 fn add(
     alloc: Global,
     links: &mut Vec<Given>,
@@ -99,7 +99,7 @@ fn add(
     Ok(())
 }
 
-/// The links of a text that lists them.
+/// Reads a text that lists links.
 fn listed(alloc: Global, text: &str) -> Result<Option<Vec<Given>>, AllocError>
     ensures { IfOk result (λ it. IfSome it (λ links. AreGiven text.now links.items)) }
 {
@@ -121,7 +121,7 @@ fn listed(alloc: Global, text: &str) -> Result<Option<Vec<Given>>, AllocError>
     Ok(Some(links))
 }
 
-/// The links of which a plain URL is the base.
+/// Returns the links that a plain URL stands for.
 fn of_base(alloc: Global, base: &str) -> Result<Vec<Given>, AllocError>
     ensures { IfOk result (λ links. map said_by links.items ≡ of_base base.now) }
 {
@@ -137,7 +137,7 @@ fn of_base(alloc: Global, base: &str) -> Result<Vec<Given>, AllocError>
     Ok(links)
 }
 
-/// A URL without a slash at its end.
+/// Returns a URL without the slash at its end.
 fn base_of(url: &str) -> &str
     ensures { IsBase url.now result.now }
 {
@@ -147,9 +147,10 @@ fn base_of(url: &str) -> &str
     base
 }
 
-/// The links of a `Link` field (RFC 8288, section 3), the first of each kind; none where it can't be
-/// read, or names no kind. Parameters may be quoted or bare, in any order, and unknown ones are passed
-/// over. A plain URL U stands for U/compensate, U/complete, and U itself for status and forget.
+/// Returns the links of a `Link` field (RFC 8288, section 3), the first of each kind, or `None` if
+/// the field can't be read or names no kind. Parameters may be quoted or bare, in any order, and
+/// unknown ones are ignored. A plain URL U stands for U/compensate, U/complete, and U itself for
+/// status and forget.
 pub fn links_of(alloc: Global, text: &str) -> Result<Option<Vec<Given>>, AllocError>
     ensures plain { (tail : List ℕ) → trim text.now ≡ codes "http://" ++ tail →
         IfOk result (λ it. IsSomeAnd it (λ links. (base : List ℕ) × IsBase (trim text.now) base × (map said_by links.items ≡ of_base base))) }

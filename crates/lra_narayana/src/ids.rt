@@ -8,7 +8,7 @@ use lra_id::LraId;
 use percent_encoding::percent_decode;
 use std::alloc::{AllocError, Global};
 
-/// An id as text: a UUID, 36 bytes, in lower case with hyphens.
+/// Returns an id as text: a UUID of 36 bytes, in lower case with hyphens.
 pub fn text_of(alloc: Global, id: LraId) -> Result<String, AllocError>
     ensures value { IfOk result (λ text. string_bytes text ≡ text_of id) }
     ensures read { IfOk result (λ _. IsId id × IsTextOf (text_of id) id) }
@@ -20,18 +20,18 @@ pub fn text_of(alloc: Global, id: LraId) -> Result<String, AllocError>
     }
 }
 
-/// An id as services know it, `BASE/lra-coordinator/UUID`. Every service has to reach the base, as
-/// `http://lra:8080`.
+/// Returns an id as services know it, `BASE/lra-coordinator/UUID`. Every service must be able to
+/// reach the base, such as `http://lra:8080`.
 pub fn url_of(alloc: Global, base: &str, id: LraId) -> Result<String, AllocError>
     ensures value { IfOk result (λ text. string_bytes text ≡ url_of base.now id) }
-    // What is written is read as itself.
+    // The URL is read back as the same id.
     ensures read { IsBaseUrl base.now → IfOk result (λ text. Names (string_bytes text) id) }
 {
     let id = text_of(alloc, id)?;
     format!(in alloc; "{base}/lra-coordinator/{id}")
 }
 
-/// Where services find a participant.
+/// Returns the URL at which services find a participant.
 pub fn recovery_of(alloc: Global, base: &str, id: LraId, member: u8) -> Result<String, AllocError>
     ensures { IfOk result (λ text. string_bytes text ≡ recovery_of base.now id member) }
 {
@@ -39,7 +39,7 @@ pub fn recovery_of(alloc: Global, base: &str, id: LraId, member: u8) -> Result<S
     format!(in alloc; "{base}/lra-coordinator/recovery/{id}/{member}")
 }
 
-/// What stands before the query of a URL.
+/// Returns the part of a URL before its query.
 fn path_of(text: &[u8]) -> &[u8]
     ensures { result.now ≡ path_of text.now }
 {
@@ -67,7 +67,7 @@ fn is_parting(byte: u8) -> bool
     byte == b'/' || byte == b':'
 }
 
-/// What stands behind the last slash or colon.
+/// Returns the part behind the last slash or colon.
 fn last_part(path: &[u8]) -> &[u8]
     ensures { result.now ≡ last_part path.now }
 {
@@ -81,7 +81,7 @@ fn last_part(path: &[u8]) -> &[u8]
     &path[start..]
 }
 
-/// These bytes with their escapes read (RFC 3986, section 2.1).
+/// Returns these bytes with their escapes decoded (RFC 3986, section 2.1).
 fn decoded(alloc: Global, bytes: &[u8]) -> Result<Vec<u8>, AllocError>
     ensures { IfOk result (λ plain. plain.items ≡ percent_decode bytes.now) }
 {
@@ -90,8 +90,9 @@ fn decoded(alloc: Global, bytes: &[u8]) -> Result<Vec<u8>, AllocError>
     Ok(plain)
 }
 
-/// The id that a text names: the last part of a path, a URL or a URN, without escapes, escaped once by
-/// a client, or by its HTTP library once more. None where that is no id of ours.
+/// Returns the id that a text names: the last part of a path, a URL or a URN. It may be unescaped,
+/// escaped once by a client, or escaped once more by the client's HTTP library. Returns `None` if
+/// that is no id of ours.
 pub fn id_in(alloc: Global, text: &[u8]) -> Result<Option<LraId>, AllocError>
     ensures { IfOk result (λ it. MatchOption it ((id : Id) → Names text.now id → ⊥)
         (λ id. Names text.now id)) }

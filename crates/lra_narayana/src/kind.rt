@@ -1,4 +1,4 @@
-// What a participant is called for, and how a carried link says so.
+// What a participant is called for, and how a carried link tells it.
 ghost use Rattle.std.specs.Prelude.{◌≡◌, ◌≢◌, ◌∷◌, [], MatchOption};
 ghost use Rattle.lra_narayana.specs.Kinds.{kind_method, kind_name, letter_of, query_text};
 ghost use Rattle.lra_narayana.specs.declared.kind.Kind.{Kind};
@@ -15,11 +15,11 @@ pub enum Kind {
     After,
 }
 
-/// The query of a participant's link. Narayana's client writes the annotation of the method into
-/// nearly each one, as `method=jakarta.ws.rs.PUT`, which is carried as a letter.
+/// The query of a participant's link. Narayana's client adds the annotation of the method to nearly
+/// every link, as `method=jakarta.ws.rs.PUT`, and a carried link has a letter in its place.
 #[derive(Clone, Copy, PartialEq, Eq, Debug)]
 pub enum Query {
-    /// Any other, or none: it is carried as it stands.
+    /// Any other query, or none: it is carried unchanged.
     Own,
     /// The method of the kind, in the package `jakarta.ws.rs`.
     Jakarta,
@@ -28,7 +28,7 @@ pub enum Query {
 }
 
 impl Kind {
-    /// Its name, in a `Link` field and in the body of a join.
+    /// Returns the kind's name in a `Link` field and in the body of a join.
     pub fn name(self) -> &'static str
         ensures { result.now ≡ kind_name self }
     {
@@ -41,7 +41,7 @@ impl Kind {
         }
     }
 
-    /// The kind of a name; none of another text.
+    /// Returns the kind of a name, or `None` for any other text.
     pub fn from_name(name: &str) -> Option<Kind>
         ensures { MatchOption result ((kind : Kind) → name.now ≢ kind_name kind)
             (λ kind. name.now ≡ kind_name kind) }
@@ -56,7 +56,7 @@ impl Kind {
         }
     }
 
-    /// The method of its calls.
+    /// Returns the HTTP method of the kind's calls.
     pub fn method(self) -> &'static str
         ensures { result.now ≡ kind_method self }
     {
@@ -67,7 +67,7 @@ impl Kind {
         }
     }
 
-    /// What this form of query adds to a link.
+    /// Returns the text that this form of query adds to a link.
     #[tactic(auto, unfolding(crate::specs::Kinds::query_text))]
     pub fn query(self, form: Query) -> &'static str
         ensures { result.now ≡ query_text self form }
@@ -101,7 +101,7 @@ impl Kind {
         }
     }
 
-    /// The letter for it and a form of query in a carried link.
+    /// Returns the letter for this kind and a form of query in a carried link.
     pub fn letter(self, form: Query) -> &'static str
         ensures { result.now ≡ letter_of self form ∷ [] }
     {
@@ -124,7 +124,8 @@ impl Kind {
         }
     }
 
-    /// The kind and the form of query that a letter (of ASCII) says; none of another byte.
+    /// Returns the kind and the form of query that a letter (an ASCII byte) stands for, or `None`
+    /// for any other byte.
     pub fn from_letter(letter: u8) -> Option<(Kind, Query)>
         ensures { MatchOption result ((kind : Kind) (form : Query) → letter ≢ letter_of kind form)
             (λ said. letter ≡ letter_of said.0 said.1) }

@@ -1,5 +1,5 @@
-//! What services that speak Narayana's coordinator interface write and read, as values and bytes: no
-//! thread, socket or clock.
+//! What services that speak Narayana's coordinator interface write and read, as values and bytes.
+//! No thread, socket or clock is used here.
 #![tactic(auto)]
 
 mod broken;

@@ -1,4 +1,5 @@
-// Messages with a body of any framing: a stated length, chunks, or what comes until the end.
+// Messages whose body has any framing: a stated length, chunks, or everything until the connection
+// ends.
 ghost use Rattle.std.specs.Prelude.{◌≡◌, ◌≢◌, ◌≤◌, ◌<◌, ℕ, List, [], ◌++◌, IfOk, IfSome, OnOk, Some, All, length, map};
 ghost use Rattle.httparse.specs.Grammar.{RequestHead};
 ghost use Rattle.httparse.specs.Spans.{IsHeaderWithin, header_bytes};
@@ -17,10 +18,10 @@ use httparse::spans::{EMPTY_HEADER_SPAN, HeaderSpan, parse_request, parse_respon
 use lra_http::{MAX_BODY_BYTES, MAX_HEAD_BYTES, MAX_HEAD_LINES, Source, read_byte};
 use std::alloc::Global;
 
-/// The most interim heads before an answer.
+/// The most heads of an answer, interim heads included.
 const MAX_HEADS: usize = 8;
 
-/// What of the head of a request counts.
+/// The fields of a request's head that are used.
 #[derive(Drop)]
 pub struct Fields {
     pub link: String,
@@ -30,7 +31,7 @@ pub struct Fields {
     pub recovery: String,
 }
 
-/// A request of a service.
+/// A service's request.
 #[derive(Drop)]
 pub struct Request {
     pub method: String,
@@ -47,7 +48,7 @@ pub struct Response {
     pub body: Vec<u8>,
 }
 
-/// Bytes up to an empty line, which they end with.
+/// Reads bytes up to and including an empty line.
 fn read_head<S: Source>(
     alloc: Global,
     source: &mut S,
@@ -71,7 +72,7 @@ fn read_head<S: Source>(
     Err(Broken::Bad)
 }
 
-/// What of the fields of a head counts.
+/// Returns the fields of a head that are used.
 fn fields_in(alloc: Global, head: &[u8], headers: &[HeaderSpan]) -> Result<Fields, Broken>
     requires { All (IsHeaderWithin (length head.now)) headers.now }
     ensures { IfOk result (λ fields. AreFields fields (map (header_bytes head.now) headers.now)) }
@@ -85,7 +86,7 @@ fn fields_in(alloc: Global, head: &[u8], headers: &[HeaderSpan]) -> Result<Field
     })
 }
 
-/// Reads a body of this framing.
+/// Reads a body that has this framing.
 fn read_body<S: Source>(
     alloc: Global,
     source: &mut S,
@@ -109,7 +110,7 @@ fn read_body<S: Source>(
     }
 }
 
-/// What the head of a request says.
+/// The contents of a request's head.
 #[derive(Drop)]
 struct Asked {
     method: String,
@@ -118,7 +119,7 @@ struct Asked {
     framing: Framing,
 }
 
-/// What the head of a request says. Its body is empty where it says no length.
+/// Parses the head of a request. If it states no framing, the body is empty.
 fn asked_by(alloc: Global, head: &[u8]) -> Result<Asked, Broken>
     ensures { IfOk result (λ asked. (h : RequestHead) × IsAskedBy
         h head.now asked.method.bytes.items asked.target.bytes.items asked.fields asked.framing) }
@@ -141,10 +142,10 @@ fn asked_by(alloc: Global, head: &[u8]) -> Result<Asked, Broken>
     })
 }
 
-/// Reads a request with its body: of a stated length, in chunks, or empty. A body has at most 65,536
-/// bytes, the head 16,384 and 64 field lines.
+/// Reads a request with its body: of a stated length, in chunks, or empty. A body has at most
+/// 65,536 bytes, the head at most 16,384 bytes and 64 field lines.
 pub fn read_request<S: Source>(alloc: Global, source: &mut S) -> Result<Request, Broken>
-    // What is given is one whole request, and no byte more.
+    // The bytes read are one whole request and nothing more.
     ensures request { IfOk result (λ request. GivesWhat (S.stream source.old) (S.stream source.new)
         (IsRequest request.method.bytes.items request.target.bytes.items request.fields request.body.items)) }
     ensures most { IfOk result (λ request. length request.body.items ≤ max_body_bytes) }
@@ -168,7 +169,7 @@ fn is_bare(code: u16) -> bool
     code == 204 || code == 304
 }
 
-/// What the head of a response says: its code, and how its body ends.
+/// Returns what the head of a response says: its code, and how its body ends.
 fn said_by(head: &[u8]) -> Option<(u16, Framing)>
     ensures { IfSome result (λ said. IsHeadText said.0 said.1 head.now) }
 {
@@ -185,7 +186,7 @@ fn said_by(head: &[u8]) -> Option<(u16, Framing)>
     }
 }
 
-/// Reads the final head of an answer, behind interim ones.
+/// Reads the final head of an answer, after any interim heads.
 fn read_final<S: Source>(
     alloc: Global,
     source: &mut S,
@@ -210,23 +211,24 @@ fn read_final<S: Source>(
     Err(Broken::Bad)
 }
 
-/// Where the body of a response of this code ends, whose fields say so.
+/// Returns how the body of a response with this code ends, if its fields say `said`.
 fn framing_for(code: u16, said: Framing) -> Framing
     ensures { result ≡ framing_for code said }
 {
     if is_bare(code) { Framing::End } else { said }
 }
 
-/// Reads an answer with its body: of a stated length, or in chunks. One that ends with the connection
-/// isn't read, since a cut one can't be told from a whole one: it counts by its code alone, and a 200
-/// not at all. A body has at most 65,536 bytes, each head 16,384 and 64 field lines, and eight heads
-/// at most come, with the interim ones.
+/// Reads an answer with its body: of a stated length, or in chunks. A body that ends with the
+/// connection isn't read, because one that was cut off looks like a whole one. Such an answer
+/// counts by its code alone, and a 200 not at all. A body has at most 65,536 bytes, each head at
+/// most 16,384 bytes and 64 field lines, and there are at most eight heads, interim heads included.
 pub fn read_answer<S: Source>(alloc: Global, source: &mut S) -> Result<Response, Broken>
-    // What is given is one whole answer, and no byte more.
+    // The bytes read are one whole answer and nothing more.
     ensures answer { IfOk result (λ answer. GivesWhat (S.stream source.old) (S.stream source.new)
         (IsAnswer answer.code answer.framing answer.body.items)) }
     ensures most { IfOk result (λ answer. length answer.body.items ≤ max_body_bytes) }
-    // Of a text that is known it reads just that answer, and of one that is cut none.
+    // If the text is known to begin with an answer, exactly that answer is read; if it is cut off,
+    // none is.
     ensures exact { IfOk result (λ answer. (code : ℕ) (framing : Framing) (body text rest : List ℕ) →
         IsAnswer code framing body text → (S.stream source.old).left ≡ Some (text ++ rest) →
         (answer.code ≡ code) × (answer.framing ≡ framing) × (answer.body.items ≡ body)
@@ -249,7 +251,7 @@ pub fn read_answer<S: Source>(alloc: Global, source: &mut S) -> Result<Response,
     })
 }
 
-/// A text begins with at most one answer, and no front of one is another.
+/// A text begins with at most one answer, and no answer is the beginning of another.
 pub fn one_answer()
     ensures { (c d : ℕ) (f g : Framing) (a b s t x y : List ℕ) → IsAnswer c f a s → IsAnswer d g b t →
         s ++ x ≡ t ++ y → (c ≡ d) × (f ≡ g) × (a ≡ b) × (s ≡ t) × (x ≡ y) }

@@ -10,16 +10,16 @@ use lra_id::LraId;
 use sha2::{Digest, Sha256};
 use std::alloc::{AllocError, Global};
 
-/// How many bytes of a digest a seal has.
+/// The number of bytes of a digest that a seal has.
 const SEAL_BYTES: usize = 6;
 
-/// The key of all gateways of a group: 32 bytes that nobody else knows.
+/// The key shared by all gateways of a group: 32 bytes that nobody else knows.
 #[derive(Clone, Copy)]
 pub struct Key {
     pub bytes: [u8; 32],
 }
 
-/// The key as a block of SHA-256, under a mask.
+/// Returns the key as a block of SHA-256, masked.
 fn pad(alloc: Global, key: &[u8; 32], mask: u8) -> Result<Vec<u8>, AllocError>
     ensures { IfOk result (λ block. block.items ≡ pad mask key.now) }
 {
@@ -31,7 +31,7 @@ fn pad(alloc: Global, key: &[u8; 32], mask: u8) -> Result<Vec<u8>, AllocError>
     Ok(block)
 }
 
-/// The digest of a mask's block and a message.
+/// Returns the digest of the masked key and a message.
 fn digest_of(
     alloc: Global,
     key: &[u8; 32],
@@ -47,7 +47,7 @@ fn digest_of(
     Ok(hasher.finalize())
 }
 
-/// HMAC (RFC 2104) over SHA-256.
+/// Computes HMAC (RFC 2104) over SHA-256.
 #[tactic(auto, unfolding(crate::specs::Seals::hmac))]
 fn hmac(alloc: Global, key: &Key, message: &[u8]) -> Result<[u8; 32], AllocError>
     ensures { IfOk result (λ digest. digest ≡ hmac key.now.bytes message.now) }
@@ -56,7 +56,7 @@ fn hmac(alloc: Global, key: &Key, message: &[u8]) -> Result<[u8; 32], AllocError
     digest_of(alloc, &key.bytes, 0x5c, &inner)
 }
 
-/// What is sealed.
+/// Returns the text that is sealed.
 fn sealed_text(alloc: Global, kind: Kind, id: LraId, link: &str) -> Result<String, AllocError>
     ensures { IfOk result (λ text. string_bytes text ≡ sealed_text kind id link.now) }
 {
@@ -65,13 +65,13 @@ fn sealed_text(alloc: Global, kind: Kind, id: LraId, link: &str) -> Result<Strin
     format!(in alloc; "{name}\n{id}\n{link}")
 }
 
-/// The seal of a participant's link, of its kind and its LRA: the first six bytes of HMAC-SHA256, as
-/// eight letters of base64 for URLs (RFC 4648, section 5).
+/// Returns the seal of a participant's link, its kind and its LRA: the first six bytes of
+/// HMAC-SHA256, as eight letters of base64 for URLs (RFC 4648, section 5).
 ///
-/// A seal is short since a node keeps no more than 127 bytes of a link, and every letter is one less
-/// for the participant's own. Its 48 bits can only be guessed at by asking: each guess is one request
-/// to a port that only nodes reach, and has to fit the LRA that the request names too, so one right
-/// guess, after 2^47 requests on average, is one link in one LRA.
+/// A seal is short because a node stores no more than 127 bytes of a link, so every letter leaves
+/// one less for the participant's own. Its 48 bits can only be guessed by asking: each guess is one
+/// request to a port that only nodes reach, and must also match the LRA that the request names. One
+/// right guess, after 2^47 requests on average, gives access to one link in one LRA.
 #[tactic(auto, unfolding(crate::specs::Seals::seal))]
 pub(crate) fn seal_of(
     alloc: Global,
@@ -87,8 +87,8 @@ pub(crate) fn seal_of(
     URL_SAFE_NO_PAD.encode(alloc, &digest[..SEAL_BYTES])
 }
 
-/// Whether two texts are one, in a time that only their lengths tell: by the time of an answer nobody
-/// learns how many letters of a guess are right.
+/// Whether two texts are equal, in a time that depends only on their lengths: nobody can learn from
+/// the time of an answer how many letters of a guess are right.
 pub(crate) fn is_same(one: &[u8], other: &[u8]) -> bool
     ensures { IsTrue result ↔ (one.now ≡ other.now) }
 {

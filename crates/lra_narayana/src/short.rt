@@ -1,11 +1,11 @@
-// Short forms of the fronts of long links.
+// Short forms for the beginnings of long links.
 ghost use Rattle.std.specs.Prelude.{◌≡◌, ◌≢◌, ◌++◌, ◌∷◌, ℕ, List, [], IfOk, MatchOption, option_copied, string_bytes};
 ghost use Rattle.lra_narayana.specs.Carrying.{behind, shortened, spelled};
 
 use std::alloc::{AllocError, Global};
 
-/// A short form that stands for the front of long links: `~NAME/` for `HOST:PORT/PATH/`, by the names
-/// that the configuration gives.
+/// A short form for the beginning of long links: `~NAME/` stands for `HOST:PORT/PATH/`. The
+/// configuration gives the names.
 #[derive(Drop)]
 pub struct Short {
     pub short: String,
@@ -13,8 +13,8 @@ pub struct Short {
 }
 
 impl Short {
-    /// The short form `~NAME/` for what stands in links behind `http://`, as
-    /// `booking.travel.svc.cluster.local:8080/lra-participant`, without the slash behind it.
+    /// Makes the short form `~NAME/` of what links have behind `http://`, such as
+    /// `booking.travel.svc.cluster.local:8080/lra-participant`, without the slash at its end.
     pub fn new(alloc: Global, name: &str, long: &str) -> Result<Short, AllocError>
         ensures { IfOk result (λ it. (string_bytes it.short ≡ 126 ∷ (name.now ++ 47 ∷ []))
             × (string_bytes it.long ≡ long.now ++ 47 ∷ [])) }
@@ -25,7 +25,7 @@ impl Short {
     }
 }
 
-/// What stands behind a text, where that stands first.
+/// Returns what follows `front`, if the text begins with it.
 #[tactic(auto, using(crate::proofs::Shorts::behind_by))]
 pub(crate) fn behind<'a>(front: &str, text: &'a str) -> Option<&'a str>
     ensures value { option_copied result ≡ behind front.now text.now }
@@ -35,7 +35,7 @@ pub(crate) fn behind<'a>(front: &str, text: &'a str) -> Option<&'a str>
     text.strip_prefix(front)
 }
 
-/// A rest with its short form, if it begins with one, spelled out.
+/// Returns a rest with its long form in place of the short form, if it begins with a short form.
 #[tactic(auto, unfolding(crate::specs::Carrying::spelled))]
 pub(crate) fn spelled(alloc: Global, shorts: &[Short], rest: &str) -> Result<String, AllocError>
     ensures { IfOk result (λ text. string_bytes text ≡ spelled shorts.now rest.now) }
@@ -49,7 +49,7 @@ pub(crate) fn spelled(alloc: Global, shorts: &[Short], rest: &str) -> Result<Str
     String::from_str(alloc, rest)
 }
 
-/// A rest made short, if it begins with a long form.
+/// Returns a rest with its short form in place of the long form, if it begins with a long form.
 #[tactic(auto, unfolding(crate::specs::Carrying::shortened))]
 pub(crate) fn shortened(alloc: Global, shorts: &[Short], rest: &str) -> Result<String, AllocError>
     ensures { IfOk result (λ text. string_bytes text ≡ shortened shorts.now rest.now) }

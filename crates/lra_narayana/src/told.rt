@@ -1,4 +1,5 @@
-// What a node is told of a participant's answer. It is never stronger than what the participant said.
+// What the gateway tells a node about a participant's answer. It is never stronger than what the
+// participant said.
 ghost use Rattle.std.specs.Prelude.{◌≡◌, ◌≢◌, ◌↔◌, IfSome, MatchOption, None, Some};
 ghost use Rattle.lra_id.specs.declared.status.MemberStatus.{MemberStatus};
 ghost use Rattle.lra_id.specs.Names.{member_name};
@@ -9,27 +10,27 @@ ghost use Rattle.lra_narayana.specs.declared.told.Answer.TheVariants.{Whole};
 use crate::Kind;
 use lra_id::MemberStatus;
 
-/// What came of the call of a participant.
+/// The outcome of a participant's call.
 #[derive(Clone, Copy, PartialEq, Eq, Debug)]
 pub enum Answer {
-    /// A whole answer: its code, and the status that its body names, if it names one.
+    /// A whole answer: its code, and the status that its body names, if any.
     Whole(u16, Option<MemberStatus>),
-    /// One that was cut, that ends with the connection, or that is too long.
+    /// An answer that was cut off, ends with the connection, or is too long.
     Broken,
-    /// No connection came.
+    /// No connection was established.
     Unreached,
-    /// None came in time.
+    /// No answer came in time.
     Late,
 }
 
-/// The code and, of a status, the word with which a node is answered.
+/// The code with which a node is answered and, for a question about the status, the word.
 #[derive(Clone, Copy, PartialEq, Eq, Debug)]
 pub struct Told {
     pub code: u16,
     pub word: Option<MemberStatus>,
 }
 
-/// The text without the blanks at its start.
+/// Returns the text without its leading blanks.
 fn without_leading(text: &[u8]) -> &[u8]
     ensures { result.now ≡ without_leading text.now }
 {
@@ -40,7 +41,7 @@ fn without_leading(text: &[u8]) -> &[u8]
     rest
 }
 
-/// The text without the blanks at its end.
+/// Returns the text without its trailing blanks.
 fn without_trailing(text: &[u8]) -> &[u8]
     ensures { result.now ≡ without_trailing text.now }
 {
@@ -60,7 +61,7 @@ fn unquoted(text: &[u8]) -> &[u8]
     }
 }
 
-/// The status that a body names, if it names one: its name (MicroProfile LRA 2.0,
+/// Returns the status that a body names, if any: its name (MicroProfile LRA 2.0,
 /// `ParticipantStatus`), in double quotes or bare, with spaces, tabs and ends of lines around it.
 pub fn word_in(body: &[u8]) -> Option<MemberStatus>
     ensures { MatchOption result ((word : MemberStatus) → bare body.now ≢ member_name word)
@@ -81,15 +82,15 @@ fn plain(code: u16) -> Told
     Told { code, word: None }
 }
 
-/// A node calls again.
+/// Returns the answer after which a node calls again.
 fn again() -> Told
     ensures { result ≡ again }
 {
     plain(503)
 }
 
-/// What a 200 to compensate counts as. Without a word it is done, since most services answer with a
-/// text of their own.
+/// Returns what a 200 or 204 to compensate counts as. Without a word the act is done, because most
+/// services answer with a text of their own.
 fn told_compensate(word: Option<MemberStatus>) -> Told
     ensures table { result ≡ told_by_word told_compensate word }
     ensures none { result.word ≡ None }
@@ -102,7 +103,7 @@ fn told_compensate(word: Option<MemberStatus>) -> Told
     }
 }
 
-/// What a 200 to complete counts as.
+/// Returns what a 200 or 204 to complete counts as.
 fn told_complete(word: Option<MemberStatus>) -> Told
     ensures table { result ≡ told_by_word told_complete word }
     ensures none { result.word ≡ None }
@@ -170,15 +171,17 @@ fn told_of_whole(kind: Kind, code: u16, word: Option<MemberStatus>) -> Told
     }
 }
 
-/// What a node is told of what came of a call of this kind: 502 where no connection came, 504 where
-/// no answer came in time, and 503, after which it calls again, of all that counts for nothing.
+/// Returns what a node is told about the outcome of a call of this kind: 502 if no connection was
+/// established, 504 if no answer came in time, and 503 for every answer that counts for nothing.
+/// After a 503 the node calls again.
 pub fn told_of(kind: Kind, answer: Answer) -> Told
     ensures table { result ≡ told_of kind answer }
-    // It is told as done, going on or failed just where the participant said so.
+    // The node is told that the act is done, goes on or failed if and only if the participant said
+    // so.
     ensures done { IsAct kind → (IsHeardDone result.code ↔ SaysDone kind answer) }
     ensures busy { IsAct kind → ((result.code ≡ 202) ↔ SaysBusy kind answer) }
     ensures failed { IsAct kind → ((result.code ≡ 409) ↔ SaysFailed kind answer) }
-    // A word is told just where the participant named it when it was asked for its status.
+    // The node is told a word if and only if the participant, when asked for its status, named it.
     ensures word { IfSome result.word
         (λ word. (kind ≡ kinds.Status) × (answer ≡ Whole 200 (Some word))) }
     ensures told { (word : MemberStatus) → kind ≡ kinds.Status → answer ≡ Whole 200 (Some word) →
