@@ -13,11 +13,11 @@ use Rattle.lra_script.specs.CallLines.{IsAnswerInRange, GivesAnswer}
 use Rattle.lra_script.specs.Joins.{GivesLinks}
 use Rattle.lra_script.specs.LineParts.{words_of}
 
--- one of so many nodes
+-- a node among this many
 abbrev pub IsNodeOf : ℕ → ℕ → Type 0
 IsNodeOf nodes n = (1 ≤ n) × (n ≤ nodes)
 
--- an LRA gives at most 32 member numbers, from 1
+-- an LRA gives out at most 32 member numbers, from 1
 abbrev pub IsMemberNumber : ℕ → Type 0
 IsMemberNumber m = (1 ≤ m) × (m ≤ MAX_MEMBERS)
 
@@ -25,7 +25,7 @@ IsMemberNumber m = (1 ≤ m) × (m ≤ MAX_MEMBERS)
 abbrev pub IsNumber : ℕ → Type 0
 IsNumber n = n < 2 ^ 64
 
--- a base has a count for each of so many nodes
+-- a base has a count for each of this many nodes
 abbrev pub IsBaseOf : ℕ → List ℕ → Type 0
 IsBaseOf nodes base = (length base ≡ nodes) × All IsNumber base
 
@@ -80,17 +80,17 @@ verb_of (Same node other) = codes "same"
 verb_of (Text id) = codes "text"
 verb_of (Read id) = codes "read"
 
--- a parent is a last word, which need not be there
+-- a parent is the last word, and may be missing
 abbrev pub parent_words : Option Id → List (List ℕ)
 parent_words None = []
 parent_words (Some p) = id_text p ∷ []
 
--- and so is a count of bytes
+-- a count of bytes is the last word, and may be missing
 abbrev pub kept_words : Option ℕ → List (List ℕ)
 kept_words None = []
 kept_words (Some n) = decimal n ∷ []
 
--- the words after it; numbers are decimal without leading zeros
+-- the words after the verb; numbers are decimal without leading zeros
 abbrev pub HasArguments : List (List ℕ) → Ask → Type 0
 HasArguments words (Enter node (Begin parent deadline)) = words ≡ decimal node ∷ decimal deadline ∷ parent_words parent
 HasArguments words (Enter node (Join id links)) =
@@ -117,11 +117,12 @@ HasArguments words (Same node other) = words ≡ decimal node ∷ decimal other 
 HasArguments words (Text id) = words ≡ id_text id ∷ []
 HasArguments words (Read id) = (text : List ℕ) × (words ≡ text ∷ []) × IsTextOf text id
 
--- a line spells what it asks
+-- a line spells what it asks for
 abbrev pub Spells : ℕ → List ℕ → Ask → Type 0
 Spells nodes line ask = (words : List (List ℕ)) × (words_of line ≡ verb_of ask ∷ words) × HasArguments words ask × IsInRange nodes ask
 
--- what words after a verb are read as: the one thing that they ask, or nothing where they ask nothing
+-- what words after a verb are read as: the one thing that they ask for, or nothing if they ask for
+-- nothing
 abbrev pub ReadsArguments : ℕ → List ℕ → List (List ℕ) → Option Ask → Type 0
 ReadsArguments nodes verb words None = (ask : Ask) → verb_of ask ≡ verb → HasArguments words ask → IsInRange nodes ask → ⊥
 ReadsArguments nodes verb words (Some ask) = (verb_of ask ≡ verb) × HasArguments words ask × IsInRange nodes ask

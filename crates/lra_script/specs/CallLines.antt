@@ -1,4 +1,5 @@
--- Calls of participants: how a line spells what one answered, which act that is heard for, and how duties are printed.
+-- Calls of participants: how a line spells a participant's answer, for which act the answer is
+-- interpreted, and how duties are printed.
 use Rattle.std.specs.Prelude.{◌≡◌, ◌<◌, ◌^◌, ◌⊎◌, ◌++◌, ℕ, List, [], ◌∷◌, Option, Some, None, Result, Ok, Err, codes}
 use Rattle.std.specs.Fmt.{decimal}
 use Rattle.lra_id.specs.Ids.{Id, id_text}
@@ -22,12 +23,12 @@ use Rattle.lra_script.specs.LineParts.{words_of}
 
 -- How a line spells an answer
 
--- the words that are left of a line have this text behind the space before them; where no words are
--- left there is no text. So the rest of a line is said by its words
+-- this text is what a line has behind the space before the words that are left; if no words are
+-- left, there is no text. So the words determine the rest of a line
 abbrev pub IsRestOf : List (List ℕ) → List ℕ → Type 0
 IsRestOf words text = ((words ≡ []) × (text ≡ [])) ⊎ (words ≡ words_of text)
 
--- a code in decimal, and the rest of the line as the body; or `broken`, whatever follows
+-- a code in decimal and the rest of the line as the body; or `broken`, whatever follows it
 abbrev pub GivesAnswer : List (List ℕ) → Answer → Type 0
 GivesAnswer words (Code n body) = (rest : List (List ℕ)) × (words ≡ decimal n ∷ rest) × IsRestOf rest body
 GivesAnswer words Broken = (rest : List (List ℕ)) × (words ≡ codes "broken" ∷ rest)
@@ -37,20 +38,20 @@ abbrev pub IsAnswerInRange : Answer → Type 0
 IsAnswerInRange (Code n body) = n < 2 ^ 16
 IsAnswerInRange Broken = Unit {0}
 
--- The act that an answer is heard for
+-- The act for which an answer is interpreted
 
--- of an LRA that wants nothing, and so is Active, no act is demanded
+-- an LRA that wants nothing, and so is Active, demands no act
 abbrev pub act_demanded : Option Act → Result Act Refusal
 act_demanded None = Err (NotDue Active)
 act_demanded (Some act) = Ok act
 
--- where there is a participant to show
+-- the act, if there is a participant to show
 abbrev pub act_where : Result MemberStatus Refusal → Result Act Refusal → Result Act Refusal
 act_where (Err r) act = Err r
 act_where (Ok status) act = act
 
--- Over the facts S, which the front counts. Of a status it is the act that the LRA's want demands. What is heard of a forget, or of
--- the end, is the same for either act
+-- Given the facts S, which the front counts: for a status, the act is the one that the LRA's want
+-- demands. An answer to a forget or to a notice of the end means the same for either act
 abbrev pub act_asked : List Fact → List ℕ → Kind → Id → ℕ → Result Act Refusal
 act_asked S front Complete id m = Ok CompleteAct
 act_asked S front Compensate id m = Ok CompensateAct
@@ -63,7 +64,7 @@ act_asked S front After id m = Ok CompleteAct
 abbrev pub duty_text : Duty → List ℕ
 duty_text d = kind_name d.kind ++ (codes " " ++ (id_text d.id ++ (codes " " ++ decimal d.member)))
 
--- those behind the first
+-- the duties after the first
 abbrev pub further_text : List Duty → List ℕ
 further_text [] = []
 further_text (d ∷ ds) = codes ", " ++ (duty_text d ++ further_text ds)

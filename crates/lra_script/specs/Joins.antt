@@ -6,7 +6,7 @@ use Rattle.lra_facts.specs.Links.{Links, kept_links}
 use Rattle.lra_script.specs.declared.asking.joins.LinkName.{LinkName}
 use Rattle.lra_script.specs.declared.asking.joins.LinkName.TheVariants.{Complete, Compensate, Status, Forget, After}
 
--- what a word begins with that gives the link of this name
+-- the beginning of a word that gives the link of this name
 abbrev pub mark_of : LinkName → List ℕ
 mark_of Complete = codes "complete="
 mark_of Compensate = codes "compensate="
@@ -36,11 +36,11 @@ abbrev pub text_under : LinkName → List (List ℕ) → Option (List ℕ)
 text_under name [] = None
 text_under name (word ∷ words) = if gives name word then Some (drop (length (mark_of name)) word) else text_under name words
 
--- it is UTF-8, if it is given
+-- the text under this name is UTF-8, if it is given
 abbrev pub IsTextUnder : LinkName → List (List ℕ) → Type 0
 IsTextUnder name words = IfSome (text_under name words) IsUtf8
 
--- words give links, in any order
+-- the words give these links, in any order
 pub record GivesLinks (words : List (List ℕ)) (links : Links) : Type 0 where
   pub named : are_link_words words ≡ true
   pub complete : IsTextUnder Complete words

@@ -1,4 +1,4 @@
--- What a node holds, and how many bytes of a frame come.
+-- What a node holds, and how many bytes of a frame arrive.
 use Rattle.std.specs.Prelude.{◌≡◌, ℕ, Option, Some, None, List, IfSome, length}
 use Rattle.lra_facts.specs.declared.fact.Fact.{Fact}
 use Rattle.lra_history.specs.Growth.{IsSettled}
@@ -6,18 +6,19 @@ use Rattle.lra_replica.specs.Replicas.{ReplicaState, view_of}
 use Rattle.lra_history.specs.Views.{StandsFor}
 use Rattle.lra_world.specs.Worlds.{IsEncoded, State, frame_at}
 
--- what a node keeps stands for just these facts, which this front counts
+-- a node's replica stands for exactly these facts, which this front counts
 pub record Holds (S : List Fact) (front : List ℕ) (kept : ReplicaState) : Type 0 where
   pub settled : IsSettled S
   pub stands : StandsFor S (view_of kept)
   pub counts : kept.front ≡ front
 
--- so many bytes spell the frame of this number, if it was sent
+-- this many bytes spell the frame of this number, if it was sent
 abbrev pub IsWholeOf : State → ℕ → ℕ → Type 0
 IsWholeOf s number count =
     IfSome (frame_at s number) (λ frame. (bytes : List ℕ) × IsEncoded s.history frame bytes × (count ≡ length bytes))
 
--- how many bytes of the frame of this number come: as many as are given, else the whole frame
+-- how many bytes of the frame of this number arrive: as many as are given, otherwise the whole
+-- frame
 abbrev pub AreComing : State → ℕ → Option ℕ → ℕ → Type 0
 AreComing s number (Some kept) count = count ≡ kept
 AreComing s number None count = IsWholeOf s number count

@@ -36,7 +36,7 @@ use Rattle.lra_script.specs.Asks.{Spells}
 use Rattle.lra_script.specs.CallLines.{act_asked, duties_text}
 use Rattle.lra_script.specs.NodeHoldings.{AreComing}
 
--- a line of at most so many bytes is read
+-- the most bytes of a line that is executed
 abbrev pub max_line_bytes : ℕ
 max_line_bytes = 4096
 
@@ -46,7 +46,7 @@ printed text = text ++ 10 ∷ []
 abbrev pub refused : Refusal → List ℕ
 refused r = printed (codes "refused " ++ refusal_text r)
 
--- what is printed of an LRA that was begun: its member number only where it has one
+-- the text about an LRA that was begun, with its member number only if it has one
 abbrev pub began_text : Id → ℕ → List ℕ
 began_text id zero = codes "began " ++ id_text id
 began_text id (suc m) = codes "began " ++ id_text id ++ codes " member " ++ decimal (suc m)
@@ -74,7 +74,7 @@ event_line (Expired id) = printed (codes "expired " ++ id_text id)
 event_line Quiet = printed (codes "quiet")
 event_line (Refused r) = refused r
 
--- nothing was entered
+-- nothing was recorded
 abbrev pub IsRefusal : CommandReply → Type 0
 IsRefusal reply = (r : Refusal) × (reply ≡ NotEntered r)
 
@@ -96,7 +96,7 @@ abbrev pub member_line : Result MemberStatus Refusal → List ℕ
 member_line (Ok status) = printed (member_name status)
 member_line (Err r) = refused r
 
--- what was heard, and then what the reply to it prints; a refusal is printed alone
+-- what a node learned, and then the reply to it; a refusal is printed alone
 abbrev pub heard_reply_line : Heard → Reply → List ℕ
 heard_reply_line heard (Answered Reported) = printed (heard_name heard ++ codes " reported")
 heard_reply_line heard (Answered Known) = printed (heard_name heard ++ codes " known")
@@ -104,7 +104,8 @@ heard_reply_line heard (Answered Forgotten) = printed (heard_name heard ++ codes
 heard_reply_line heard (Answered Told) = printed (heard_name heard ++ codes " told")
 heard_reply_line heard reply = event_line reply
 
--- the line of an answer of which a node heard this, and that enters a command, or nothing
+-- the line for an answer from which a node learned this, and for which it makes this command or
+-- none
 abbrev pub heard_line : State → ℕ → Heard → Option Command → List ℕ
 heard_line s node heard None = printed (heard_name heard)
 heard_line s node heard (Some c) = heard_reply_line heard (Answered (reply_at s node c))
@@ -113,7 +114,8 @@ abbrev pub after_heard : State → ℕ → Option Command → State
 after_heard s node None = s
 after_heard s node (Some c) = after_command s node c
 
--- the line of an answer that is heard for this act, or for none, since that is refused
+-- the line for an answer that is interpreted for this act, or that is refused because there is no
+-- act
 abbrev pub answer_line : State → ℕ → Id → ℕ → Kind → Answer → Result Act Refusal → List ℕ
 answer_line s node id m kind answer (Err r) = refused r
 answer_line s node id m kind answer (Ok act) =
@@ -123,7 +125,7 @@ abbrev pub after_answer : State → ℕ → Id → ℕ → Kind → Answer → R
 after_answer s node id m kind answer (Err r) = s
 after_answer s node id m kind answer (Ok act) = after_heard s node (command_heard id m act (heard_of act kind answer))
 
--- `same` where this holds, and `differ` where it doesn't
+-- `same` if this holds, and `differ` if it doesn't
 abbrev pub TellsSame : Type 0 → List ℕ → Type 0
 TellsSame equal out = (equal × (out ≡ printed (codes "same"))) ⊎ ((equal → ⊥) × (out ≡ printed (codes "differ")))
 
@@ -131,8 +133,9 @@ TellsSame equal out = (equal × (out ≡ printed (codes "same"))) ⊎ ((equal �
 abbrev pub PrintsReply : State → Event → List ℕ → State → Type 0
 PrintsReply s event out t = (reply : Reply) × Steps s event reply t × (out ≡ event_line reply)
 
--- In state s this is printed for what a line asks, and the state after it is t. Of duties the list of all is printed, in
--- their order. Two nodes hold the same where their fronts are equal. Questions change nothing
+-- In state s a line that asks for this prints this text, and the state after it is t. For duties,
+-- all of them are printed, in their order. Two nodes hold the same if their fronts are equal.
+-- Questions change nothing
 abbrev pub Does : State → Ask → List ℕ → State → Type 0
 Does s (Enter node command) out t = PrintsReply s (ActEvent node command) out t
 Does s (Tick node now) out t = PrintsReply s (TickEvent node now) out t
@@ -156,25 +159,27 @@ Does s (Read id) out t = (out ≡ printed (id_text id)) × (t ≡ s)
 abbrev pub HasHappened : State → Event → List ℕ → Machine → Type 0
 HasHappened s event out world = (t : State) × PrintsReply s event out t × IsWorldOf t world
 
--- what is asked was done in state s: this is printed, and the world stands for the state after it
+-- what a line asks for was done in state s: this text is printed, and the world stands for the
+-- state after it
 abbrev pub WasDone : State → Ask → List ℕ → Machine → Type 0
 WasDone s ask out world = (t : State) × Does s ask out t × IsWorldOf t world
 
--- a line that is too long, or fits no command
+-- a line that is too long, or spells no command
 abbrev pub IsBad : ℕ → List ℕ → Type 0
 IsBad nodes line = (max_line_bytes < length line) ⊎ ((ask : Ask) → Spells nodes line ask → ⊥)
 
--- a line that asks something, which is done
+-- a line that asks for something, which is done
 abbrev pub IsDone : ℕ → State → List ℕ → List ℕ → State → Type 0
 IsDone nodes s line out t =
     (ask : Ask) × (length line ≤ max_line_bytes) × Spells nodes line ask × Does s ask out t
 
--- In state s a line prints this and leaves state t, where memory is not wanting. An empty line prints nothing.
+-- In state s a line prints this and leaves state t, provided memory doesn't run out. An empty line
+-- prints nothing.
 abbrev pub AnswersInRoom : ℕ → State → List ℕ → List ℕ → State → Type 0
 AnswersInRoom nodes s [] out t = (out ≡ []) × (t ≡ s)
 AnswersInRoom nodes s (b ∷ bs) out t = (IsBad nodes (b ∷ bs) × (out ≡ refused BadText) × (t ≡ s)) ⊎ IsDone nodes s (b ∷ bs) out t
 
--- the same, where any line but an empty one may run out of memory, and then nothing happened
+-- the same, but any line except an empty one may run out of memory, and then nothing happened
 abbrev pub Answers : ℕ → State → List ℕ → List ℕ → State → Type 0
 Answers nodes s [] out t = (out ≡ []) × (t ≡ s)
 Answers nodes s (b ∷ bs) out t = ((out ≡ refused NoMemory) × (t ≡ s)) ⊎ AnswersInRoom nodes s (b ∷ bs) out t
@@ -183,8 +188,8 @@ Answers nodes s (b ∷ bs) out t = ((out ≡ refused NoMemory) × (t ≡ s)) ⊎
 abbrev pub WasAnswered : ℕ → State → List ℕ → List ℕ → Machine → Type 0
 WasAnswered nodes s line out world = (t : State) × Answers nodes s line out t × IsWorldOf t world
 
--- From state s on these lines print this, one after another, and lead through these states, one after each line, where
--- `answers` says what a line prints
+-- From state s on, these lines print this, one after another, and lead through these states, one
+-- after each line, if `answers` says what a line prints
 abbrev pub TextOfLines : (State → List ℕ → List ℕ → State → Type 0) → State → List (List ℕ) → List ℕ → List State → Type 0
 TextOfLines answers s [] out [] = out ≡ []
 TextOfLines answers s (line ∷ lines) out (t ∷ states) =
@@ -195,23 +200,24 @@ TextOfLines answers s (line ∷ lines) out [] = ⊥
 abbrev pub ScriptText : ℕ → State → List (List ℕ) → List ℕ → List State → Type 0
 ScriptText nodes s lines out states = TextOfLines (Answers nodes) s lines out states
 
--- the same, where no line runs out of memory. It is one text, since an event has one reply and
+-- the same, if no line runs out of memory. The text is unique, because an event has one reply and
 -- leaves one state
 abbrev pub TextInRoom : ℕ → State → List (List ℕ) → List ℕ → List State → Type 0
 TextInRoom nodes s lines out states = TextOfLines (AnswersInRoom nodes) s lines out states
 
--- from each of these states a run of the world leads to each later one, and the headline holds from the one to the other
+-- a run of the world leads from each of these states to each later one, and the headline holds from
+-- the earlier to the later
 abbrev pub AreOneRun : List State → Type 0
 AreOneRun states =
     (i j : ℕ) (s t : State) → i ≤ j → slice_get states i ≡ Some s → slice_get states j ≡ Some t → Leads s t × Converges s t
 
--- What the lines of a script print, over a world that has no facts yet. The states that they lead through, with the first one,
--- are those of one run of the world
+-- What the lines of a script print, over a world that has no facts yet. The states that they lead
+-- through, starting with the first one, are those of one run of the world
 pub record Plays (nodes : ℕ) (lines : List (List ℕ)) (out : List ℕ) : Type 0 where
   pub states : List State
   pub text : ScriptText nodes (start nodes) lines out states
   pub one_run : AreOneRun (start nodes ∷ states)
 
--- a line, and that what it prints was written so, in a world that stands for the state after it
+-- a line, what it prints, which was written so, and a world that stands for the state after it
 abbrev pub Prints : ℕ → State → List ℕ → Machine → (List ℕ → Type 0) → Type 0
 Prints nodes s line world was_written = (out : List ℕ) × WasAnswered nodes s line out world × was_written out

@@ -1,4 +1,4 @@
-// What a line prints, and what it does to the world.
+// Answering a line: what it prints, and what it does to the world.
 ghost use Rattle.std.specs.Prelude.{◌≡◌, ◌≤◌, length, IfOk, OnErr, string_bytes};
 ghost use Rattle.lra_id.specs.declared.TheConstants.{MAX_NODES};
 ghost use Rattle.lra_facts.specs.declared.refusal.Refusal.TheVariants.{NoMemory};
@@ -21,8 +21,8 @@ use lra_id::{Front, NodeId};
 use lra_world::{Event, World};
 use std::alloc::{AllocError, Global};
 
-/// What a line prints, and what it does to the world of so many nodes. Running out of memory is no
-/// event.
+/// Executes a line over the world of `nodes` nodes and returns what it prints. If memory runs out,
+/// no event has happened.
 pub fn answer(
     alloc: Global,
     world: &mut World,
@@ -96,7 +96,7 @@ fn happen(alloc: Global, world: &mut World, event: Event) -> Result<String, Allo
     tell(alloc, room, reply)
 }
 
-/// Has a node send what it has since a base, in a version of frames.
+/// Makes a node send what it has since a base, in a version of frames.
 fn send(
     alloc: Global,
     world: &mut World,
@@ -116,7 +116,7 @@ fn send(
     happen(alloc, world, event)
 }
 
-/// Has a frame come to a node, or the first so many bytes of it.
+/// Delivers a frame, or its first `kept` bytes, to a node.
 fn deliver(
     alloc: Global,
     world: &mut World,
@@ -133,7 +133,7 @@ fn deliver(
     happen(alloc, world, Event::Deliver { frame, node, kept })
 }
 
-/// How many bytes of a frame come: as many as are given, else the whole frame.
+/// Returns how many bytes of a frame arrive: `kept` if it is given, otherwise the whole frame.
 fn bytes_coming(world: &World, frame: usize, kept: Option<u64>) -> usize
     ensures { (s : State) → IsWorldOf s world.now → AreComing s frame kept result }
 {

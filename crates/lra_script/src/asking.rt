@@ -1,5 +1,5 @@
-// What a line asks, and how it is read. Here stands the choice by the verb, in words.rt what one
-// word is, in asking/ the words of each command: each has one definition beside it.
+// What a line asks for, and how it is read. This file chooses by the verb, words.rt reads single
+// words, and asking/ reads the words of each command: each command has one definition, next to it.
 ghost use Rattle.std.specs.Prelude.{◌≤◌, IfOk, MatchOption};
 ghost use Rattle.lra_id.specs.declared.TheConstants.{MAX_NODES};
 ghost use Rattle.lra_script.specs.declared.asking.Ask.{Ask};
@@ -23,17 +23,17 @@ use members::{forgot_of, leave_of, member_of, report_of, told_of};
 use nodes::{deliver_of, duties_of, front_of, restart_of, same_of, send_of, send_old_of, tick_of};
 use std::alloc::{AllocError, Global};
 
-/// What a line asks.
+/// What a line asks for.
 #[derive(Debug, Drop)]
 pub enum Ask {
     /// `begin NODE DEADLINE`, `begin NODE DEADLINE PARENT`, `join NODE ID WORD=LINK ..`, `leave
     /// NODE ID M`, `close NODE ID`, `cancel NODE ID`, `report NODE ID M ACT OUTCOME`, `forgot NODE
-    /// ID M`, `told NODE ID M`, `purge NODE ID`: a node is asked to enter something.
+    /// ID M`, `told NODE ID M`, `purge NODE ID`: a node is given a command.
     Enter {
         node: NodeId,
         command: Command,
     },
-    /// `tick NODE NOW`: a node is told the time, and cancels an LRA whose deadline has passed.
+    /// `tick NODE NOW`: a node learns the time, and cancels an LRA whose deadline has passed.
     Tick {
         node: NodeId,
         now: u64,
@@ -43,20 +43,20 @@ pub enum Ask {
         node: NodeId,
         base: Front,
     },
-    /// `sendold NODE COUNT ..`: it sends the same in version 1 of frames. A line spells one ask by
-    /// its verb, so this is another ask and no version of `Send`.
+    /// `sendold NODE COUNT ..`: a node sends the same in version 1 of frames. This is an ask of its
+    /// own and not a version of `Send`, because the verb of a line determines its ask.
     SendOld {
         node: NodeId,
         base: Front,
     },
-    /// `deliver K NODE`, `deliver K NODE BYTES`: a frame that was sent comes to a node, or the
-    /// first so many bytes of it.
+    /// `deliver K NODE`, `deliver K NODE BYTES`: a frame that was sent, or its first BYTES bytes,
+    /// arrives at a node.
     Deliver {
         frame: u64,
         node: NodeId,
         kept: Option<u64>,
     },
-    /// `restart NODE`: a node starts again, with what it holds.
+    /// `restart NODE`: a node restarts with what it holds.
     Restart {
         node: NodeId,
     },
@@ -71,11 +71,11 @@ pub enum Ask {
         id: LraId,
         member: u8,
     },
-    /// `duties NODE`: whom a node is to call now, and what for.
+    /// `duties NODE`: which participants a node has to call now, and for what.
     Duties {
         node: NodeId,
     },
-    /// `answer NODE ID M KIND CODE`, `answer NODE ID M KIND CODE BODY`: a node is told what a
+    /// `answer NODE ID M KIND CODE`, `answer NODE ID M KIND CODE BODY`: a node receives what a
     /// participant answered to a call.
     Hear {
         node: NodeId,
@@ -95,12 +95,12 @@ pub enum Ask {
     },
     /// `text ID`: the text of an id as a UUID.
     Text(LraId),
-    /// `read TEXT`: the id that a text is read as.
+    /// `read TEXT`: the id that a text stands for.
     Read(LraId),
 }
 
-/// What a line asks of a world of so many nodes. Only the links of a join and the body of an answer
-/// take memory.
+/// Returns what a line asks for in a world of `nodes` nodes. Only the links of a join and the body
+/// of an answer take memory.
 pub fn ask_of(alloc: Global, line: &[u8], nodes: u8) -> Result<Option<Ask>, AllocError>
     requires { nodes ≤ MAX_NODES }
     ensures { IfOk result (λ found.
@@ -116,7 +116,7 @@ pub fn ask_of(alloc: Global, line: &[u8], nodes: u8) -> Result<Option<Ask>, Allo
     }
 }
 
-/// What the words after a verb ask.
+/// Returns what the words after a verb ask for.
 fn ask_by_verb(
     alloc: Global,
     verb: Verb,

@@ -1,4 +1,5 @@
-// What is printed of duties, and of the answers that are heard, and what these do to the world.
+// Printing duties and the effects of participants' answers, and applying these answers to the
+// world.
 ghost use Rattle.std.specs.Prelude.{◌≡◌, ◌≤◌, ◌++◌, ℕ, List, [], length, IfOk, OnErr, OnOk, string_bytes, true};
 ghost use Rattle.lra_facts.specs.declared.fact.Fact.{Fact};
 ghost use Rattle.lra_facts.specs.Sets.{is_held, want};
@@ -23,7 +24,7 @@ use lra_replica::Replica;
 use lra_world::{Event, Reply, World};
 use std::alloc::{AllocError, Global};
 
-/// Whom a node is to call now, and what for.
+/// Prints which participants a node has to call now, and for what.
 pub fn show_duties(alloc: Global, replica: &Replica, me: NodeId) -> Result<String, AllocError>
     requires { me ≤ length replica.now.front }
     ensures { (S : List Fact) (front : List ℕ) → Holds S front replica.now →
@@ -67,10 +68,10 @@ fn push_further(alloc: Global, text: &mut String, duties: &[Duty]) -> Result<(),
     Ok(())
 }
 
-/// Has a node hear what a participant answered to a call of this kind: what was heard is entered,
-/// or the participant is to be called again. The answer is heard before the LRA is looked at, so a
-/// 503 about an unknown LRA is `Again`. Only of a status the LRA is looked at first, since its act
-/// is the LRA's.
+/// Gives a node a participant's answer to a call of this kind: what it learned is recorded, or the
+/// participant is to be called again. The answer is interpreted before the LRA is looked up, so a
+/// 503 about an unknown LRA is `Again`. Only for a status is the LRA looked up first, because its
+/// act depends on the LRA.
 pub fn hear_answer(
     alloc: Global,
     world: &mut World,
@@ -98,9 +99,9 @@ pub fn hear_answer(
     }
 }
 
-/// The act that an answer to a call of this kind is heard for: of a status the one that the LRA's
-/// want demands, or why there is none. What is heard of a forget, or of the end, is the same for
-/// either.
+/// Returns the act for which an answer to a call of this kind is interpreted. For a status it is
+/// the act that the LRA's want demands; if there is none, the refusal says why. An answer to a
+/// forget or to a notice of the end means the same for either act.
 fn act_asked(replica: &Replica, kind: Kind, id: LraId, member: u8) -> Result<Act, Refusal>
     ensures { (S : List Fact) (front : List ℕ) →
         Holds S front replica.now → result ≡ act_asked S front kind id member }

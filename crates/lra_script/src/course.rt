@@ -1,4 +1,4 @@
-// The course of a script, over any source and sink.
+// Running a script over any source and sink.
 ghost use Rattle.std.specs.Prelude.{◌≡◌, ◌≤◌, length, IfErr, OnOk, OnErr};
 ghost use Rattle.lra_id.specs.declared.TheConstants.{MAX_NODES};
 ghost use Rattle.lra_http.specs.Streams.{TakesPart};
@@ -13,20 +13,20 @@ use lra_http::{Sink, Source, WriteFault, flush, write_all};
 use lra_world::World;
 use std::alloc::Global;
 
-/// Why a script stopped before its input's end.
+/// Why a script stopped before the end of its input.
 #[derive(Clone, Copy, Debug, PartialEq, Eq)]
 pub enum ScriptFault {
-    /// A read failed, 1,024 were interrupted within a line, or 18,446,744,073,709,551,615 were
-    /// made.
+    /// A read failed, 1,024 reads were interrupted within a line, or 18,446,744,073,709,551,615
+    /// reads were made.
     Read,
-    /// A write failed, or 1,024 were interrupted within a line.
+    /// A write failed, or 1,024 writes were interrupted within a line.
     Write,
-    /// There was no memory to begin with.
+    /// There wasn't enough memory to begin.
     NoMemory,
 }
 
-/// Runs the commands that are read, one a line, over a world of 1 to 8 nodes that has no facts yet,
-/// and writes what each prints. It ends with its input, or at a fault.
+/// Runs the commands that it reads, one on each line, over a world of 1 to 8 nodes that has no
+/// facts yet, and writes what each prints. Ends with its input, or at a fault.
 pub fn script<R: Source, W: Sink>(
     alloc: Global,
     reader: &mut R,
@@ -36,14 +36,14 @@ pub fn script<R: Source, W: Sink>(
     requires some { 1 ≤ nodes }
     requires few { nodes ≤ MAX_NODES }
 
-    // What was written and passed on is the text of what was given, to its end. The states that its
-    // lines lead through are those of one run of the world, and the headline holds from each to
-    // each later one. No call failed, and of interrupted ones there were fewer than 1,024 a line.
+    // What was written and flushed is the text of the whole input. The states that its lines lead
+    // through are those of one run of the world, and the headline holds from each state to each
+    // later one. No call failed, and fewer than 1,024 calls were interrupted for each line.
     ensures text { OnOk result (HasRun nodes
         (R.stream reader.old) (R.stream reader.new) (W.stream writer.old) (W.stream writer.new)
         (R.calls reader.old) (R.calls reader.new) (W.calls writer.old) (W.calls writer.new)) }
-    // After a fault what was written is a prefix of such a text, whatever follows what was given.
-    // After a read fault every line that was given whole is answered whole.
+    // After a fault, what was written is a prefix of such a text, whatever would have followed the
+    // input that was read. After a read fault, each line that was read whole has its whole answer.
     ensures part { OnErr result (WritesPart nodes
         (R.stream reader.old) (R.stream reader.new) (W.stream writer.old) (W.stream writer.new)) }
     ensures whole { result ≡ Err ScriptFault.Read → AnswersWhole nodes

@@ -1,4 +1,4 @@
-// Laws of the definitions: each function does nothing, and its contract is the law.
+// Laws about the definitions: each function does nothing, and its contract is the law.
 ghost use Rattle.std.specs.Prelude.{◌≡◌, ◌≤◌, ◌∷◌, ℕ, List, IfSome};
 ghost use Rattle.lra_id.specs.declared.TheConstants.{MAX_NODES};
 ghost use Rattle.lra_http.specs.Streams.{Calls, GivenBytes, TakenBytes, TakesPart};
@@ -15,8 +15,9 @@ pub fn a_line_spells_one_ask()
         nodes ≤ MAX_NODES → Spells nodes line a → Spells nodes line b → a ≡ b }
 {}
 
-/// A script has one text but for lack of memory: two texts of the same lines from the same state,
-/// in neither of which a line met it, are equal, and so are the states that they lead through.
+/// A script has only one text, unless memory runs out: if no line ran out of memory in two texts of
+/// the same lines from the same state, the texts are equal, and so are the states that they lead
+/// through.
 pub fn a_script_has_one_text()
     ensures one { (nodes : ℕ) (s : State) (lines : List (List ℕ)) (a b : List ℕ)
         (states others : List State) → nodes ≤ MAX_NODES → TextInRoom nodes s lines a states →
@@ -27,15 +28,15 @@ pub fn a_script_has_one_text()
 {}
 
 /// Whatever the lines of a script are, the states that they lead through are those of one run of
-/// the world: a line is an event of it, or none.
+/// the world: a line is an event of it or no event.
 pub fn a_script_is_one_run()
     ensures { (nodes : ℕ) (s : State) (lines : List (List ℕ)) (out : List ℕ) (states : List State) →
         IsWorld s → nodes_of s ≡ nodes →
         ScriptText nodes s lines out states → AreOneRun (s ∷ states) }
 {}
 
-/// Where the bytes that were left are known, a script that ended has written the text of all of
-/// them, and one that broke off a prefix of it.
+/// If the bytes of the input are known, a script that ended has written the text of all of them,
+/// and one that stopped early a prefix of that text.
 pub fn a_script_is_of_its_input()
     ensures text { (nodes : ℕ) (old new : GivenBytes)
         (before after : TakenBytes) (reads_before reads writes_before writes : Calls) →

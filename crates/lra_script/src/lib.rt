@@ -1,4 +1,4 @@
-//! A script of commands over a world of one to eight nodes, and the program that plays one.
+//! A script of commands over a world of one to eight nodes, and the program that runs one.
 #![tactic(auto)]
 
 mod answer;

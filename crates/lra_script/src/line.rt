@@ -4,16 +4,16 @@ ghost use Rattle.lra_script.specs.ScriptEnds.{LineReads, ReadsLine, ReadsPart};
 
 use lra_http::{ReadFault, Source, read_byte};
 
-/// A line of at most so many bytes is read.
+/// The most bytes of a line that is executed.
 pub const MAX_LINE_BYTES: usize = 4096;
 
-/// One byte more than a line may have is kept, so that a longer line shows.
+/// One byte more than a line may have is kept, so that a longer line is noticed.
 pub const KEPT_OF_LINE: usize = 4097;
 
-/// Reads the next line, of which the first 4,097 bytes are kept in room that is there, and answers
-/// whether a line feed ended it. Otherwise the input did. The line is one message: 1,024
-/// interrupted reads in it are a fault. So is a read that finds none of `reads_left`, from which
-/// each byte and the end take one.
+/// Reads the next line. Its first 4,097 bytes are kept, without taking memory. Returns true if a
+/// line feed ended the line, false if the input did. 1,024 interrupted reads within a line are a
+/// fault. So is a read when `reads_left` is zero: each byte takes one of these reads, and so does
+/// the end.
 pub fn read_line<R: Source>(
     reader: &mut R,
     line: &mut Vec<u8>,

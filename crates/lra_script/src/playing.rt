@@ -1,4 +1,4 @@
-// A script that a program's arguments ask for, over the streams that it is given.
+// Running the script that a program's arguments ask for, over given streams.
 ghost use Rattle.lra_script.specs.Arguments.{AskScript, EndsWith, IsRunOf, exit_status};
 ghost use Rattle.std.specs.Prelude.{◌≡◌, ℕ, IfOk, MatchOption, drop, map, string_bytes};
 ghost use Rattle.std.specs.Vec.Iter.{into_iter_items};
@@ -10,19 +10,20 @@ use lra_id::MAX_NODES;
 use std::alloc::{AllocError, Global};
 use std::env::Args;
 
-/// How what the words of a command line ask for ended.
+/// How a program ended that was started with the words of a command line.
 #[derive(Clone, Copy, Debug, PartialEq, Eq)]
 pub enum Ended {
-    /// The input was read and what it prints was written, to their ends.
+    /// The whole input was read, and all that it prints was written.
     Ran,
     /// The script stopped at this fault.
     Stopped(ScriptFault),
-    /// The words ask for no script.
+    /// The words don't ask for a script.
     NotAsked,
 }
 
 impl Ended {
-    /// The exit status: 0 where the script ran, 1 where it stopped, and 2 where none was asked for.
+    /// Returns the exit status: 0 if the script ran, 1 if it stopped, and 2 if the words didn't ask
+    /// for one.
     pub fn status(self) -> u8
         ensures { result ≡ exit_status self }
     {
@@ -34,15 +35,15 @@ impl Ended {
     }
 }
 
-/// The arguments after the program's name, which is the first of all that were given.
+/// Returns the arguments without the first, which is the program's name.
 pub fn arguments(alloc: Global, given: Args) -> Result<Vec<String>, AllocError>
     ensures { IfOk result (λ words. words.items ≡ drop 1 (into_iter_items given)) }
 {
     given.skip(1).collect(alloc)
 }
 
-/// Plays the script that the words of a command line ask for, from a reader to a writer. Where they
-/// ask for none, nothing is read or written.
+/// Runs the script that the words of a command line ask for, from a reader to a writer. If they
+/// don't ask for one, nothing is read or written.
 pub fn run<R: Source, W: Sink>(
     alloc: Global,
     words: &[String],
@@ -63,8 +64,8 @@ pub fn run<R: Source, W: Sink>(
     }
 }
 
-/// The same for a program, which hands over its standard input and output. Where the words ask for
-/// no script the usage goes to standard error.
+/// Does the same for a program, with its standard input and output. If the words don't ask for a
+/// script, the usage is written to standard error.
 pub fn play<R: Source, W: Sink>(
     rt: &HostRuntime,
     words: &[String],
@@ -84,7 +85,8 @@ pub fn play<R: Source, W: Sink>(
     ended
 }
 
-/// How many nodes a script is to have, where the arguments ask for a script.
+/// Returns the number of nodes of the script that the arguments ask for, or `None` if they don't
+/// ask for a script.
 pub fn asked_nodes(words: &[String]) -> Option<u8>
     ensures { MatchOption result ((nodes : ℕ) →
         AskScript (map string_bytes words.now) nodes → ⊥) (AskScript (map string_bytes words.now)) }

@@ -1,4 +1,4 @@
-// What is shown: questions, which change nothing.
+// Answers to questions, which change nothing.
 ghost use Rattle.std.specs.Prelude.{◌≡◌, ◌++◌, length, codes, IfOk, string_bytes};
 ghost use Rattle.lra_id.specs.Fronts.{front_text};
 ghost use Rattle.lra_id.specs.Ids.{id_text, text_of};
@@ -17,8 +17,8 @@ use lra_world::World;
 use std::alloc::{AllocError, Global};
 use std::str;
 
-/// What a node holds. It lends the replica with a clause over all that this `Holds`, so each
-/// question is a function of a `&Replica`, and takes one line where it is asked.
+/// Returns a node's replica. The clause says what it `Holds`, so that each question is a function
+/// of a `&Replica` and takes one line where it is asked.
 pub fn replica_at(world: &World, node: NodeId) -> &Replica
     requires { IsNodeOf (length world.now.replicas) node }
     ensures holds { (s : State) →
@@ -28,7 +28,7 @@ pub fn replica_at(world: &World, node: NodeId) -> &Replica
     world.replica(node)
 }
 
-/// What a node shows of an LRA.
+/// Prints what a node shows of an LRA.
 pub fn show(alloc: Global, world: &World, node: NodeId, id: LraId) -> Result<String, AllocError>
     requires { IsNodeOf (length world.now.replicas) node }
     ensures { (s : State) → IsWorldOf s world.now →
@@ -40,7 +40,7 @@ pub fn show(alloc: Global, world: &World, node: NodeId, id: LraId) -> Result<Str
     }
 }
 
-/// What a node shows of a participant.
+/// Prints what a node shows of a participant.
 pub fn show_member(
     alloc: Global,
     world: &World,
@@ -58,7 +58,7 @@ pub fn show_member(
     }
 }
 
-/// How many facts of each node a node has.
+/// Prints how many facts of each node a node has.
 pub fn show_front(alloc: Global, replica: &Replica) -> Result<String, AllocError>
     ensures { IfOk result
         (λ text. string_bytes text ≡ printed (codes "front " ++ front_text replica.now.front)) }
@@ -67,7 +67,7 @@ pub fn show_front(alloc: Global, replica: &Replica) -> Result<String, AllocError
     format!(in alloc; "front {front}\n")
 }
 
-/// Whether two nodes hold the same. Nodes of one history do where their fronts are equal.
+/// Prints whether two nodes hold the same. Nodes of one history do if their fronts are equal.
 pub fn show_same(alloc: Global, one: &Replica, other: &Replica) -> Result<String, AllocError>
     ensures { IfOk result
         (λ text. TellsSame (view_of one.now ≡ view_of other.now) (string_bytes text)) }
@@ -78,7 +78,7 @@ pub fn show_same(alloc: Global, one: &Replica, other: &Replica) -> Result<String
     format!(in alloc; "differ\n")
 }
 
-/// The text of an id as a UUID.
+/// Prints the text of an id as a UUID.
 pub fn text_line(alloc: Global, id: LraId) -> Result<String, AllocError>
     ensures { IfOk result (λ text. string_bytes text ≡ printed (text_of id)) }
 {
@@ -89,7 +89,7 @@ pub fn text_line(alloc: Global, id: LraId) -> Result<String, AllocError>
     }
 }
 
-/// The id that a text was read as.
+/// Prints the id for which a text stood.
 pub fn id_line(alloc: Global, id: LraId) -> Result<String, AllocError>
     ensures { IfOk result (λ text. string_bytes text ≡ printed (id_text id)) }
 {

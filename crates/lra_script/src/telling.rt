@@ -1,4 +1,4 @@
-// The lines that replies print: of what happened, in room that was made before it.
+// The lines that replies to events print. Room for a line is made before its event.
 ghost use Rattle.std.specs.Prelude.{◌≡◌, ◌≤◌, ◌+◌, ◌++◌, [], ◌∷◌, length, codes, IfOk, OnErr, string_bytes};
 ghost use Rattle.std.specs.Fmt.{decimal};
 ghost use Rattle.lra_id.specs.Ids.{id_text};
@@ -11,10 +11,10 @@ use lra_world::Reply;
 use std::alloc::{AllocError, Global};
 use std::marker::Model;
 
-/// The bytes that there is room for: more than the longest line that tells of an event.
+/// The number of bytes that there is room for: more than the longest line about an event.
 const ROOM: usize = 256;
 
-/// A text in room that was made before it is known, so that to write it takes no memory.
+/// A text in room that was made before the text is known, so that writing it takes no memory.
 #[derive(Drop)]
 pub struct Room {
     text: String,
@@ -39,7 +39,7 @@ impl Room {
         Ok(Room { text })
     }
 
-    /// Puts a text at the end.
+    /// Appends a text.
     pub fn text(&mut self, piece: &str)
         requires { length self.old + length piece.now ≤ 256 }
         ensures text { self.new ≡ self.old ++ piece.now }
@@ -48,7 +48,7 @@ impl Room {
         let _ = self.text.push_str(piece);
     }
 
-    /// Puts a number in decimal at the end.
+    /// Appends a number in decimal.
     pub fn number(&mut self, number: u64)
         requires { length self.old + 40 ≤ 256 }
         ensures text { self.new ≡ self.old ++ decimal number }
@@ -58,7 +58,7 @@ impl Room {
         self.text(buffer.format(number));
     }
 
-    /// Puts an id at the end.
+    /// Appends an id.
     pub fn id(&mut self, id: LraId)
         requires { length self.old + 81 ≤ 256 }
         ensures text { self.new ≡ self.old ++ id_text id }
@@ -69,7 +69,7 @@ impl Room {
         self.number(id.num());
     }
 
-    /// The text as a line.
+    /// Returns the text as a line.
     pub fn into_line(mut self) -> String
         requires { length self + 1 ≤ 256 }
         ensures { string_bytes result ≡ self ++ 10 ∷ [] }
@@ -80,7 +80,7 @@ impl Room {
     }
 }
 
-/// The line that a reply prints: of what happened, in room that was made before.
+/// Returns the line that a reply prints, in room that was made before the event.
 pub fn tell(alloc: Global, room: Room, reply: Reply) -> Result<String, AllocError>
     requires { room ≡ [] }
     ensures ok { IfOk result (λ text. string_bytes text ≡ event_line reply) }
@@ -116,7 +116,7 @@ fn tell_answered(alloc: Global, room: Room, reply: CommandReply) -> Result<Strin
     }
 }
 
-/// The line that tells of an LRA that was begun: its member number only where it has one.
+/// Returns the line about an LRA that was begun, with its member number only if it has one.
 fn began_line(mut room: Room, id: LraId, member: u8) -> String
     requires { room ≡ [] }
     ensures { string_bytes result ≡ printed (began_text id member) }
@@ -148,7 +148,7 @@ fn sent_line(mut room: Room, frame: usize) -> String
     room.into_line()
 }
 
-/// The line that tells of an LRA that was cancelled since its deadline had passed.
+/// Returns the line about an LRA that was cancelled because its deadline had passed.
 fn expired_line(mut room: Room, id: LraId) -> String
     requires { room ≡ [] }
     ensures { string_bytes result ≡ printed (codes "expired " ++ id_text id) }
@@ -167,7 +167,7 @@ fn word_line(mut room: Room, word: &str) -> String
     room.into_line()
 }
 
-/// The line that a refusal prints.
+/// Returns the line that a refusal prints.
 pub fn refusal_line(alloc: Global, refusal: Refusal) -> Result<String, AllocError>
     ensures { IfOk result (λ text. string_bytes text ≡ refused refusal) }
 {

@@ -13,7 +13,7 @@ use lra_forest::MAX_MEMBERS;
 use lra_id::{LraId, MAX_NODES, NodeId, number_of};
 use std::marker::Model;
 
-/// The words of a line that are still to be read. Words are parted by one space.
+/// The words of a line that are still to be read. Words are separated by one space.
 #[derive(Drop)]
 pub struct Words<'a> {
     rest: Option<&'a [u8]>,
@@ -30,14 +30,14 @@ impl<'a> Model for Words<'a> {
 }
 
 impl<'a> Words<'a> {
-    /// All words of a line.
+    /// Returns all words of a line.
     pub fn of(line: &'a [u8]) -> Words<'a>
         ensures { result ≡ words_of line.now }
     {
         Words { rest: Some(line) }
     }
 
-    /// The next word.
+    /// Reads the next word.
     pub fn next(&mut self) -> Option<&'a [u8]>
         ensures { MatchOption result ((self.old ≡ []) × (self.new ≡ []))
             (λ word. self.old ≡ word.now ∷ self.new) }
@@ -48,15 +48,15 @@ impl<'a> Words<'a> {
         Some(word)
     }
 
-    /// The same words, to be read once more.
+    /// Returns the same words, to be read once more.
     pub fn again(&self) -> Words<'a>
         ensures { result ≡ self.now }
     {
         Words { rest: self.rest }
     }
 
-    /// The rest of the line behind the space that follows the words that were read; nothing, where
-    /// all were read.
+    /// Returns the rest of the line behind the space that follows the words that were read. It is
+    /// empty if all words were read.
     pub fn rest(&self) -> &'a [u8]
         ensures { IsRestOf self.now result.now }
     {
@@ -66,7 +66,7 @@ impl<'a> Words<'a> {
         }
     }
 
-    /// Whether all words were read.
+    /// Whether all words have been read.
     pub fn is_done(&self) -> bool
         ensures { IsTrue result ↔ (self.now ≡ []) }
     {
@@ -114,7 +114,7 @@ pub enum Verb {
 }
 
 impl Verb {
-    /// The verb of this name.
+    /// Returns the verb of this name.
     pub fn from_name(name: &[u8]) -> Option<Verb>
         ensures { MatchOption result ((verb : TheVerb) → name.now ≡ verb_name verb → ⊥)
             (λ verb. name.now ≡ verb_name verb) }
@@ -147,7 +147,7 @@ impl Verb {
     }
 }
 
-/// The node, of so many, that a word spells.
+/// Returns the node that a word spells, in a world of `nodes` nodes.
 pub fn node_of(word: &[u8], nodes: u8) -> Option<NodeId>
     requires { nodes ≤ MAX_NODES }
     ensures { MatchOption result ((node : ℕ) → IsNodeOf nodes node →
@@ -163,7 +163,7 @@ pub fn node_of(word: &[u8], nodes: u8) -> Option<NodeId>
     }
 }
 
-/// The member number that a word spells.
+/// Returns the member number that a word spells.
 pub fn member_number_of(word: &[u8]) -> Option<u8>
     ensures { MatchOption result ((m : ℕ) → IsMemberNumber m →
         word.now ≡ decimal m → ⊥) (λ m. IsMemberNumber m × (word.now ≡ decimal m)) }
@@ -175,7 +175,7 @@ pub fn member_number_of(word: &[u8]) -> Option<u8>
     Some(number as u8)
 }
 
-/// The code of an answer that a word spells: at most 65,535.
+/// Returns the code of an answer that a word spells: at most 65,535.
 pub fn code_of(word: &[u8]) -> Option<u16>
     ensures { MatchOption result ((n : ℕ) → n < 2 ^ 16 → word.now ≡ decimal n → ⊥)
         (λ n. word.now ≡ decimal n) }
@@ -187,7 +187,8 @@ pub fn code_of(word: &[u8]) -> Option<u16>
     Some(number as u16)
 }
 
-/// The id that a word spells: its home, which has one digit, and its number, parted by a point.
+/// Returns the id that a word spells: its home, which has one digit, and its number, separated by a
+/// point.
 pub fn id_of(word: &[u8]) -> Option<LraId>
     ensures { MatchOption result ((id : Id) → IsId id → word.now ≡ id_text id → ⊥)
         (λ id. IsId id × (word.now ≡ id_text id)) }

@@ -1,5 +1,5 @@
-// Reading what joins. The words are read once for each of five links, as the definition does; one
-// pass would need an invariant over five answers.
+// Reading the links of a join. The words are read once for each of five links, as in the
+// definition; a single pass would need an invariant over five answers.
 ghost use Rattle.std.specs.Prelude.{◌≡◌, ◌≤◌, codes, drop, length, true, IfOk, MatchOption};
 ghost use Rattle.std.specs.List.{list_all, list_any};
 ghost use Rattle.std.specs.Option.{option_copied};
@@ -180,7 +180,7 @@ fn text_given<'a>(words: &Words<'a>, name: LinkName) -> Option<Option<&'a str>>
     }
 }
 
-/// The bytes that are given under this name.
+/// Returns the bytes that are given under this name.
 fn text_under<'a>(words: &Words<'a>, name: LinkName) -> Option<&'a [u8]>
     ensures { option_copied result ≡ text_under name words.now }
 {

@@ -1,4 +1,4 @@
-// Reading what is asked of LRAs.
+// Reading what is asked about LRAs.
 ghost use Rattle.std.specs.Prelude.{◌≡◌, ◌≤◌, ℕ, List, [], ◌∷◌, codes, Option, IfSome, MatchOption};
 ghost use Rattle.std.specs.Fmt.{decimal};
 ghost use Rattle.lra_id.specs.declared.TheConstants.{MAX_NODES};
@@ -76,7 +76,7 @@ fn node_and_id(mut words: Words<'_>, nodes: u8) -> Option<(NodeId, LraId)>
     Some(node_and_id)
 }
 
-/// The node and the id that the next two words spell.
+/// Returns the node and the id that the next two words spell.
 pub fn next_node_and_id(words: &mut Words<'_>, nodes: u8) -> Option<(NodeId, LraId)>
     requires { nodes ≤ MAX_NODES }
     ensures { MatchOption result ((node : ℕ) (id : Id) (rest : List (List ℕ)) →

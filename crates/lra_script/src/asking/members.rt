@@ -1,4 +1,4 @@
-// Reading what is asked of participants.
+// Reading what is asked about participants.
 ghost use Rattle.std.specs.Prelude.{◌≡◌, ◌≤◌, ℕ, List, [], ◌∷◌, codes, MatchOption};
 ghost use Rattle.std.specs.Fmt.{decimal};
 ghost use Rattle.lra_id.specs.declared.TheConstants.{MAX_NODES};
@@ -78,7 +78,7 @@ fn participant_of(mut words: Words<'_>, nodes: u8) -> Option<(NodeId, LraId, u8)
     Some(participant)
 }
 
-/// The node, the id and the member number that the next three words spell.
+/// Returns the node, the id and the member number that the next three words spell.
 pub fn next_participant(words: &mut Words<'_>, nodes: u8) -> Option<(NodeId, LraId, u8)>
     requires { nodes ≤ MAX_NODES }
     ensures { MatchOption result ((node : ℕ) (id : Id) (m : ℕ) (rest : List (List ℕ)) →

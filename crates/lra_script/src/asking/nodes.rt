@@ -1,4 +1,4 @@
-// Reading what is asked of nodes.
+// Reading what is asked about nodes.
 ghost use Rattle.std.specs.Prelude.{◌≡◌, ◌≤◌, ℕ, List, Option, codes, map, IfSome, MatchOption};
 ghost use Rattle.std.specs.Fmt.{decimal};
 ghost use Rattle.lra_id.specs.declared.TheConstants.{MAX_NODES};
@@ -75,7 +75,8 @@ pub fn deliver_of(mut words: Words<'_>, nodes: u8) -> Option<Ask>
     Some(Ask::Deliver { frame, node, kept })
 }
 
-/// How many bytes the last words of a deliver give: no count, where there are no words left.
+/// Returns how many bytes of a frame the last words of a deliver state. If there are no words left,
+/// they state no count.
 fn kept_of(mut words: Words<'_>) -> Option<Option<u64>>
     ensures { MatchOption result ((kept : Option ℕ) → IfSome kept IsNumber → words.entry
         ≡ kept_words kept → ⊥) (λ kept. IfSome kept IsNumber × (words.entry ≡ kept_words kept)) }
