@@ -1,4 +1,4 @@
--- The calls of a file, by the last one and what was before it.
+-- The calls of a file, given the last one and those before it.
 use Rattle.std.specs.Prelude.{List, [], ◌∷◌, Option, None, Some}
 use Rattle.std.specs.declared.snapshot.Snapshot.{Snapshot}
 use Rattle.sqlite_disk.specs.Events.{Event, settled, measured, read, read_under, written, cut, flushed}

@@ -1,4 +1,4 @@
-// What a node's files held at each of its last stops.
+// The contents of a node's files at each of its last stops.
 
 use crate::disk::{Doubt, Image, Remains};
 use crate::halt::Halt;
@@ -7,10 +7,10 @@ use lra_facts::Body;
 use lra_id::{Front, MAX_NODES, NodeId};
 use std::alloc::Global;
 
-/// How many copies of its disk a node keeps.
+/// The number of copies of its disk that a node keeps.
 const COPIES: usize = 4;
 
-/// What a node's files held at each of its last stops, the newest last.
+/// The contents of a node's files at each of its last stops, the newest last.
 #[derive(Drop)]
 pub struct Copies {
     alloc: Global,
@@ -18,7 +18,8 @@ pub struct Copies {
     images: Vec<Image>,
 }
 
-/// The front that counts so many facts of a node, if it counts that node, and else as this one.
+/// Returns the front with this count for a node, if the front counts that node, and otherwise
+/// unchanged.
 pub fn raised(front: Front, node: NodeId, count: u64) -> Front {
     let mut next = front;
     if usize::from(node.number()) <= next.nodes() {
@@ -27,12 +28,13 @@ pub fn raised(front: Front, node: NodeId, count: u64) -> Front {
     next
 }
 
-/// That files have other facts than they had.
+/// Reports that files have other facts than they had.
 fn changed(alloc: Global, had: Front, has: Front) -> Result<Halt, Halt> {
     Ok(Halt::Found(format!(in alloc; "its disk had {had}, and it has {has}")?))
 }
 
-/// What the one fact of a node's own leads to that was in doubt. Where the files have it, it was entered.
+/// Returns the front with the node's own fact that was in doubt. If the files have that fact, it
+/// was stored, so it is added to the history.
 fn settle_fact(
     history: &mut History,
     me: NodeId,
@@ -48,7 +50,7 @@ fn settle_fact(
     Ok(with)
 }
 
-/// What files had, and what they may have where the call that was cut off was stored.
+/// Returns the front that files may have if the call that was cut off was stored.
 fn settled(
     history: &mut History,
     me: NodeId,
@@ -64,19 +66,20 @@ fn settled(
 }
 
 impl Copies {
-    /// Of a new node, one of so many: one copy, of empty files.
+    /// Makes the copies of a new node in a group of `nodes` nodes: one copy, of empty files.
     pub fn new(alloc: Global, me: NodeId, nodes: u8) -> Result<Copies, Halt> {
         let mut images = Vec::new(alloc);
         images.push(Image::empty(alloc, nodes.clamp(1, MAX_NODES)))?;
         Ok(Copies { alloc, me, images })
     }
 
-    /// The place of the newest.
+    /// Returns the place of the newest copy.
     pub fn newest(&self) -> usize {
         self.images.len().saturating_sub(1)
     }
 
-    /// How many facts of another node a frame has that is in doubt.
+    /// Returns how many facts of another node the frame that is in doubt leads to, or 0 if no frame
+    /// is in doubt.
     pub fn doubted_of(&self, other: NodeId) -> u64 {
         let Some(copy) = self.images.last() else {
             return 0;
@@ -87,7 +90,7 @@ impl Copies {
         }
     }
 
-    /// The copy at a place.
+    /// Returns the copy at a place.
     pub fn get(&self, place: usize) -> Result<&Image, Halt> {
         match self.images.get(place) {
             Some(copy) => Ok(copy),
@@ -95,7 +98,8 @@ impl Copies {
         }
     }
 
-    /// What is left of a copy, a call of which failed before its journal was open.
+    /// Replaces a copy with what is left of it after one of its calls failed before its journal was
+    /// open.
     pub fn leave(&mut self, place: usize, files: &Remains, loses_power: bool) -> Result<(), Halt> {
         let Some(copy) = self.images.get_mut(place) else {
             return Ok(());
@@ -106,7 +110,7 @@ impl Copies {
         Ok(())
     }
 
-    /// Keeps what the files hold, as the newest.
+    /// Keeps what the files hold as the newest copy.
     pub fn keep(
         &mut self,
         files: &Remains,
@@ -122,12 +126,13 @@ impl Copies {
         Ok(())
     }
 
-    /// Those beyond a place are lost.
+    /// Drops the copies beyond a place.
     pub fn drop_beyond(&mut self, place: usize) {
         self.images.truncate(place.saturating_add(1));
     }
 
-    /// The facts that a copy had, and what was in doubt; it has these facts now.
+    /// Takes the facts that a copy had and what was in doubt, and records the facts that it has
+    /// now.
     fn take_doubt(&mut self, place: usize, has: Front) -> Option<(Front, Doubt)> {
         let Some(copy) = self.images.get_mut(place) else {
             return None;
@@ -137,7 +142,7 @@ impl Copies {
         Some((had, std::mem::replace(&mut copy.doubt, Doubt::Nothing)))
     }
 
-    /// Looks whether a book that was opened has the facts of its copy, and settles what was in doubt.
+    /// Checks that a book that was opened has the facts of its copy, and settles what was in doubt.
     pub fn settle(&mut self, history: &mut History, place: usize, has: Front) -> Result<(), Halt> {
         let Some((had, doubt)) = self.take_doubt(place, has) else {
             return Ok(());

@@ -1,5 +1,5 @@
-// The disk of a node: what its two files hold while no journal is open over them, and journals over
-// copies of them.
+// The disk of a node: the contents of its two files while no journal is open over them, and
+// journals over copies of them.
 
 use crate::drive::{Drive, FileHandle, Ills};
 use crate::halt::Halt;
@@ -12,7 +12,7 @@ use std::alloc::Global;
 
 pub type Store = FileStore<Modelled<Drive, Unknown>>;
 
-/// What a call that was cut off was to store.
+/// What a call that was cut off would have stored.
 #[derive(Drop)]
 pub enum Doubt {
     Nothing,
@@ -22,8 +22,8 @@ pub enum Doubt {
     Frame(Front),
 }
 
-/// What the files of a node hold, and which facts are there; perhaps with those of a call that was
-/// cut off.
+/// The contents of a node's files, and the facts that they have, perhaps also those of a call that
+/// was cut off.
 #[derive(Drop)]
 pub struct Image {
     log: Vec<u8>,
@@ -39,7 +39,7 @@ pub struct Fate {
     db: Ills,
 }
 
-/// The files of a journal, for one who looks what is left of them once it is closed.
+/// The files of a journal, to read what is left of them once it is closed.
 #[derive(Drop)]
 pub struct Remains {
     log: FileHandle,
@@ -47,7 +47,7 @@ pub struct Remains {
 }
 
 impl Fate {
-    /// They go well.
+    /// No call fails.
     pub fn good() -> Fate {
         let well = Ills {
             well: u64::MAX,
@@ -59,7 +59,8 @@ impl Fate {
         }
     }
 
-    /// Some call fails, and all behind it or few.
+    /// Picks a call that fails, and whether all calls behind it fail too, or only a few; or no call
+    /// fails.
     pub fn by(luck: &mut Luck) -> Fate {
         let mut fate = Fate::good();
         if luck.is_one_in(3) {
@@ -85,7 +86,7 @@ impl Fate {
     }
 }
 
-/// What is left of a file.
+/// Returns what is left of a file.
 fn left_of(file: &FileHandle, loses_power: bool) -> Result<Vec<u8>, Halt> {
     match file.left(loses_power) {
         Some(bytes) => Ok(bytes),
@@ -93,7 +94,8 @@ fn left_of(file: &FileHandle, loses_power: bool) -> Result<Vec<u8>, Halt> {
     }
 }
 
-/// A connection over files that weren't called yet; none where a call of these fails.
+/// Opens a connection over files that weren't called yet. Returns `None` if one of their calls
+/// fails.
 fn connect(
     alloc: Global,
     files: &Remains,
@@ -113,7 +115,7 @@ fn connect(
 }
 
 impl Image {
-    /// Of a new node.
+    /// Returns the disk of a new node.
     pub fn empty(alloc: Global, nodes: u8) -> Image {
         let nodes = usize::from(nodes.max(1).min(MAX_NODES));
         Image {
@@ -124,7 +126,7 @@ impl Image {
         }
     }
 
-    /// What is left of files, whose connection is closed.
+    /// Returns what is left of files whose connection is closed.
     pub fn of(
         files: &Remains,
         loses_power: bool,
@@ -141,9 +143,9 @@ impl Image {
         })
     }
 
-    /// Copies of the files, and a connection to them; none where a call fails before it is open.
-    /// The log is copied into the database file once it is so long, which is sooner than in the
-    /// server.
+    /// Makes copies of the files and opens a connection to them. Returns no connection if a call
+    /// fails before it is open. The log is copied into the database file at a length that luck
+    /// decides, which is sooner than in the server.
     pub fn open(
         &self,
         alloc: Global,

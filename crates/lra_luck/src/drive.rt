@@ -1,5 +1,5 @@
-// A file in memory, as a database sees it: `sqlite_disk` says what may become of what was written
-// and not synced.
+// A file in memory as a database sees it. `sqlite_disk` says what may happen to bytes that were
+// written and not synced.
 ghost use Rattle.std.specs.Prelude.{◌≡◌, ◌<◌, ◌≤◌, ◌^◌, [], ◌∷◌, length, IfOk};
 ghost use Rattle.sqlite_disk.specs.Events.{settled};
 ghost use Rattle.sqlite_disk.specs.Refusal.{is_no_room, as_number};
@@ -16,27 +16,27 @@ use std::rc::Rc;
 
 const MAX_OFFSET: usize = (1 << 63) - 1;
 
-/// What a call since the last sync changed.
+/// What one call since the last sync changed.
 #[derive(Drop)]
 struct Undo {
     at: usize,
     old: Vec<u8>,
-    /// How long the file was before.
+    /// The length of the file before the call.
     len: usize,
-    /// Whether it cut the old bytes off, and wrote none over them.
+    /// Whether the call cut the old bytes off, rather than overwriting them.
     is_cut: bool,
 }
 
-/// When calls of a file fail.
+/// When the calls of a file fail.
 #[derive(Clone, Copy)]
 pub struct Ills {
-    /// How many calls go well first.
+    /// The number of calls that succeed first.
     pub well: u64,
-    /// How many fail then.
+    /// The number of calls that fail after that.
     pub fail: u64,
 }
 
-/// What a file holds.
+/// The contents of a file.
 #[derive(Drop)]
 struct Content {
     alloc: Global,
@@ -53,7 +53,7 @@ pub struct Drive {
     log: Record,
 }
 
-/// The same file, for one who looks what is left of it.
+/// The same file, to read what is left of it.
 #[derive(Drop)]
 pub struct FileHandle {
     file: Rc<RefCell<Content>>,
@@ -70,7 +70,7 @@ fn lengthen(file: &mut Vec<u8>, end: usize) -> Result<(), AllocError> {
     Ok(())
 }
 
-/// The bytes from one offset to another, of those that are there.
+/// Returns the bytes from one offset to another, if the file has them, and otherwise none.
 fn part(alloc: Global, file: &[u8], at: usize, end: usize) -> Result<Vec<u8>, AllocError> {
     if at > end || end > file.len() {
         return Ok(Vec::new(alloc));
@@ -79,7 +79,7 @@ fn part(alloc: Global, file: &[u8], at: usize, end: usize) -> Result<Vec<u8>, Al
     Ok(old)
 }
 
-/// Writes over what is there; what would go past the end isn't written.
+/// Overwrites bytes of a file, but writes nothing if they would go past its end.
 fn overwrite(file: &mut [u8], at: usize, bytes: &[u8]) {
     let end = at.saturating_add(bytes.len());
     if end <= file.len() && end - at == bytes.len() {
@@ -87,7 +87,7 @@ fn overwrite(file: &mut [u8], at: usize, bytes: &[u8]) {
     }
 }
 
-/// Reads as many bytes as there is room for, if they are there.
+/// Reads as many bytes as there is room for. Returns false if the file doesn't have them.
 fn copy_out(file: &[u8], at: usize, buf: &mut [u8]) -> bool {
     let end = at.saturating_add(buf.len());
     if end > file.len() || end - at != buf.len() {
@@ -138,7 +138,7 @@ impl Content {
         Ok(())
     }
 
-    /// Whether so many bytes were read.
+    /// Fills the buffer from an offset. Returns false if that fails.
     fn read(&mut self, at: usize, buf: &mut [u8]) -> bool {
         if self.fails() {
             return false;
@@ -146,7 +146,7 @@ impl Content {
         copy_out(&self.bytes, at, buf)
     }
 
-    /// A write that fails may have written some.
+    /// Writes bytes. A write that fails may have written some of them.
     fn write(&mut self, at: usize, bytes: &[u8]) -> bool {
         if !self.fails() {
             return self.put(at, bytes).is_ok();
@@ -176,7 +176,7 @@ impl Content {
         true
     }
 
-    /// How many bytes of a call's are kept as power is lost.
+    /// Returns how many bytes of a call survive a loss of power.
     fn kept_of(&mut self, count: usize) -> usize {
         match self.luck.below(4) {
             0 => count,
@@ -185,7 +185,7 @@ impl Content {
         }
     }
 
-    /// Power is lost, and so is what a call wrote, or part of it.
+    /// Undoes a write, or part of it, because power is lost.
     fn undo_write(&mut self, undo: &Undo) {
         let kept = self.kept_of(undo.old.len());
         if kept < undo.old.len() {
@@ -200,7 +200,8 @@ impl Content {
         }
     }
 
-    /// Power is lost, and the file is as long as before it was cut, or not quite; or it stays cut.
+    /// Undoes a cut because power is lost: the file gets back its old length, or nearly; or it
+    /// stays cut.
     fn undo_cut(&mut self, undo: &Undo) {
         let kept = self.kept_of(undo.old.len());
         if kept >= undo.old.len() {
@@ -213,7 +214,7 @@ impl Content {
         }
     }
 
-    /// Power is lost: what was synced is there, and any parts of the rest.
+    /// Loses power: what was synced stays, and so do any parts of the rest.
     fn lose_power(&mut self) {
         for _ in 0..self.undos.len() {
             let Some(undo) = self.undos.pop() else {
@@ -229,7 +230,7 @@ impl Content {
 }
 
 impl FileHandle {
-    /// A file with these bytes.
+    /// Makes a file with these bytes.
     pub fn new(
         alloc: Global,
         bytes: &[u8],
@@ -248,7 +249,7 @@ impl FileHandle {
         Ok(FileHandle { file })
     }
 
-    /// The file as a database has it, which hasn't been called yet.
+    /// Returns the file as a database uses it. It hasn't been called yet.
     pub(crate) fn drive(&self, key: u64) -> Result<Drive, AllocError>
         ensures { IfOk result (λ drive. drive.log ≡ settled key ∷ []) }
     {
@@ -258,8 +259,8 @@ impl FileHandle {
         Ok(Drive { file, log })
     }
 
-    /// What is left of it: all that was written; or, where power is lost, what was synced and any
-    /// parts of the rest. Nothing is where it is in use.
+    /// Returns what is left of the file: all that was written or, if power is lost, what was synced
+    /// and any parts of the rest. Returns `None` if the file is in use.
     pub fn left(&self, loses_power: bool) -> Option<Vec<u8>> {
         let Ok(mut content) = self.file.try_borrow_mut() else {
             return None;
@@ -332,7 +333,7 @@ fn sync(file: &Rc<RefCell<Content>>) -> io::Result<()> {
     }
 }
 
-/// These bytes, as clauses read them.
+/// Returns these bytes as clauses read them.
 fn log_of(bytes: &[u8]) -> Log
     ensures { result ≡ bytes.now }
 {
@@ -341,14 +342,14 @@ fn log_of(bytes: &[u8]) -> Log
     log
 }
 
-/// 1 where a call failed as there was no room.
+/// Returns 1 if a call failed because there was no room.
 fn no_room(error: &io::Error) -> usize
     ensures { result ≡ as_number (is_no_room error.now) }
 {
     usize::from(is_no_room(error))
 }
 
-// Each makes one call of the file, and then notes it with its answer.
+// Each makes one call of the file, and then notes the call with its answer.
 impl Calls for Drive {
     ghost history = { λ d. d.log };
 

@@ -1,13 +1,13 @@
-// Why a play is over before its end.
+// Why a simulation ended early.
 
 use lra_facts::Refusal;
 use lra_id::BadText;
 use std::alloc::{AllocError, AllocFailed};
 
-/// Why a play is over before its end.
+/// Why a simulation ended early.
 #[derive(Debug, Drop)]
 pub enum Halt {
-    /// Something isn't so that has to be.
+    /// Something that has to be so isn't.
     Found(String),
     /// The simulator itself can't go on.
     Stuck(&'static str),

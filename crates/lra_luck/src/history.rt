@@ -1,16 +1,16 @@
-// All facts that any node entered, as a plain list.
+// All facts that any node recorded, as a plain list.
 
 use crate::halt::Halt;
 use lra_facts::{Body, Fact};
 use lra_id::{Front, LraId, MAX_NODES, NodeId};
 use std::alloc::Global;
 
-/// All facts that any node entered, in the order in which that happened.
+/// All facts that any node recorded, in the order in which that happened.
 #[derive(Drop)]
 pub struct History {
     alloc: Global,
     facts: Vec<Fact>,
-    /// Of each node where its facts stand, by their numbers.
+    /// For each node, the places of its facts, by their numbers.
     places: Vec<Vec<usize>>,
 }
 
@@ -46,12 +46,12 @@ impl History {
         }
     }
 
-    /// How many facts a node entered.
+    /// Returns how many facts a node recorded.
     pub fn count(&self, node: NodeId) -> u64 {
         self.places_of(node).len() as u64
     }
 
-    /// Where the first fact of a node stands that a front doesn't count.
+    /// Returns the place of a node's first fact that a front doesn't count.
     fn first_new(&self, node: NodeId, front: &Front) -> usize {
         let counted = front.count(node) as usize;
         match self.places_of(node).get(counted) {
@@ -60,7 +60,7 @@ impl History {
         }
     }
 
-    /// The facts from the first on that a front doesn't count.
+    /// Returns the facts from the first one that a front doesn't count.
     pub fn since(&self, front: &Front) -> &[Fact] {
         let mut first = self.facts.len();
         for number in 1..=MAX_NODES {
@@ -91,7 +91,7 @@ impl History {
         Ok(())
     }
 
-    /// Adds a fact, whose number has to be the next of that node.
+    /// Adds a fact, whose number must be the next of its node.
     pub fn add(&mut self, origin: NodeId, num: u64, body: Body) -> Result<(), Halt> {
         let count = self.count(origin);
         if num.checked_sub(1) != Some(count) {
@@ -123,7 +123,7 @@ impl History {
         Ok(())
     }
 
-    /// Forgets what a node entered beyond so many facts.
+    /// Forgets a node's facts beyond the first `count`.
     pub fn forget(&mut self, node: NodeId, count: u64) -> Result<(), Halt> {
         if self.count(node) <= count {
             return Ok(());
@@ -133,7 +133,7 @@ impl History {
         self.note_all_places()
     }
 
-    /// The LRAs that a node began, the newest first, of which no more than so many.
+    /// Returns the LRAs that a node began, the newest first, at most `most` of them.
     pub fn begun(&self, alloc: Global, node: NodeId, most: usize) -> Result<Vec<LraId>, Halt> {
         let mut found = Vec::new(alloc);
         for place in self.places_of(node).iter().rev() {

@@ -1,4 +1,4 @@
-// Which facts a node has, and what each LRA shows by these.
+// The facts that a node has, and what each LRA shows by these facts.
 
 use crate::halt::Halt;
 use crate::history::{History, counts};
@@ -36,7 +36,7 @@ fn is_among(id: LraId, ids: &[LraId]) -> bool {
     ids.contains(&id)
 }
 
-/// The LRA that a fact is about.
+/// Returns the LRA that a fact is about.
 fn about(fact: &Fact) -> Result<LraId, Halt> {
     match &fact.body {
         Body::Begin { .. } => Ok(LraId::new(fact.origin, fact.num)?),
@@ -54,13 +54,13 @@ fn is_purge(body: &Body) -> bool {
     matches!(body, Body::Purge { .. })
 }
 
-/// That an LRA shows less than before.
+/// Reports that an LRA shows less than before.
 fn fallen(alloc: Global, id: LraId, old: LraStatus, now: LraStatus) -> Result<Halt, Halt> {
     Ok(Halt::Found(format!(in alloc; "{id} showed {old}, and shows {now} now")?))
 }
 
 impl Known {
-    /// That there are no facts.
+    /// Makes a node's knowledge without any facts.
     pub fn new(alloc: Global, me: NodeId, nodes: u8) -> Result<Known, Halt> {
         let nodes = nodes.clamp(1, MAX_NODES);
         Ok(Known {
@@ -72,12 +72,12 @@ impl Known {
         })
     }
 
-    /// The facts that it has.
+    /// Returns the facts that the node has.
     pub fn front(&self) -> Front {
         self.front
     }
 
-    /// How many facts it has of its own.
+    /// Returns how many facts of its own the node has.
     pub fn own(&self) -> u64 {
         self.front.count(self.me)
     }
@@ -90,17 +90,18 @@ impl Known {
         &self.shown
     }
 
-    /// The node's own calls that are due.
+    /// Returns the calls that are due at this node as a home.
     pub fn dues(&self) -> Result<Vec<DueCall>, Halt> {
         self.model.dues(self.me)
     }
 
-    /// Whether a record is what the facts say of an LRA.
+    /// Whether a record agrees with what the facts say about an LRA.
     pub fn is_record(&self, id: LraId, record: &Record) -> bool {
         self.model.is_record(id, record)
     }
 
-    /// It has the facts of a front now, all of which it had or were entered by others.
+    /// Adds the facts that this front counts and the node didn't have, all of which other nodes
+    /// recorded before.
     pub fn grow(&mut self, history: &History, front: Front, now: u64) -> Result<(), Halt> {
         let had = self.front;
         let mut touched = Vec::new(self.alloc);
@@ -113,7 +114,7 @@ impl Known {
         self.show_all(&touched, now)
     }
 
-    /// Learns a fact, and notes which LRA it is about.
+    /// Adds a fact, and notes which LRA it is about.
     fn learn(&mut self, fact: &Fact, touched: &mut Vec<LraId>) -> Result<(), Halt> {
         let id = about(fact)?;
         if is_purge(&fact.body) {
@@ -126,14 +127,14 @@ impl Known {
         Ok(())
     }
 
-    /// The tree of a root isn't shown any more.
+    /// Stops showing the tree of a root.
     fn hide(&mut self, root: LraId) -> Result<(), Halt> {
         let gone = self.model.tree(root)?;
         self.shown.retain(|shown| !is_among(shown.id, &gone));
         Ok(())
     }
 
-    /// It has these facts alone: it begins over an older copy.
+    /// Leaves the node with exactly these facts: it begins over an older copy.
     pub fn fall_back(&mut self, history: &History, front: Front, now: u64) -> Result<(), Halt> {
         let nodes = u8::try_from(front.nodes()).unwrap_or(MAX_NODES);
         self.model = Model::new(self.alloc, nodes)?;
@@ -142,12 +143,13 @@ impl Known {
         self.grow(history, front, now)
     }
 
-    /// The place at which an LRA is shown, or would be: in order of homes and numbers.
+    /// Returns the place of an LRA in the list, or where it would be: in order of homes and
+    /// numbers.
     fn place_of(&self, id: LraId) -> usize {
         self.shown.partition_point(|shown| is_before(shown.id, id))
     }
 
-    /// What an LRA shows.
+    /// Returns what an LRA shows.
     pub fn shown_of(&self, id: LraId) -> Option<Shown> {
         let Some(shown) = self.shown.get(self.place_of(id)) else {
             return None;
@@ -162,7 +164,8 @@ impl Known {
         }
     }
 
-    /// Since when an LRA shows what it shows now; it has risen to that, or stayed.
+    /// Returns since when an LRA shows what it shows now, and checks that its status has risen or
+    /// stayed.
     fn since_of(&self, id: LraId, status: LraStatus, now: u64) -> Result<u64, Halt> {
         let Some(before) = self.shown_of(id) else {
             return Ok(now);
@@ -177,7 +180,8 @@ impl Known {
         Ok(now)
     }
 
-    /// Notes what the trees of these LRAs show, and looks whether each LRA has risen. No other can show something else.
+    /// Notes what the trees of these LRAs show, and checks that each LRA has risen or stayed. No
+    /// other LRA can show anything else than before.
     fn show_all(&mut self, touched: &[LraId], now: u64) -> Result<(), Halt> {
         for id in touched {
             self.show_tree(*id, now)?;

@@ -1,6 +1,6 @@
-//! What the simulator `lra_sim` plays nodes under, and what it compares them with: numbers that a
-//! seed decides, a plain list of all facts, what these say, and files in memory some of whose calls
-//! fail.
+//! What the simulator `lra_sim` runs nodes over and compares them with: numbers that a seed
+//! decides, a plain list of all facts, what these facts say, and files in memory some of whose
+//! calls fail.
 #![tactic(auto)]
 
 mod copies;

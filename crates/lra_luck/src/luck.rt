@@ -20,19 +20,19 @@ impl Luck {
         mixed ^ (mixed >> 31)
     }
 
-    /// A number below `sides`, or 0.
+    /// Returns a number below `sides`, or 0.
     pub fn below(&mut self, sides: u64) -> u64
         ensures { result < max sides 1 }
     {
         self.next() % sides.max(1)
     }
 
-    /// Whether one of so many cases is there.
+    /// Returns true in one of `cases` cases.
     pub fn is_one_in(&mut self, cases: u64) -> bool {
         self.below(cases) == 0
     }
 
-    /// A place of a list of so many, or 0.
+    /// Returns a place in a list of this length, or 0.
     pub fn place(&mut self, count: usize) -> usize
         ensures { result < max count 1 }
     {

@@ -1,4 +1,4 @@
-// What facts say, reckoned apart from the code that is tested: docs/MODEL.md, from "What an LRA
+// What facts say, computed independently of the code under test: docs/MODEL.md, from "What an LRA
 // wants" to "Duties".
 
 use crate::halt::Halt;
@@ -8,10 +8,10 @@ use lra_forest::{Member, Participant, Record};
 use lra_id::{Act, LraId, LraStatus, MemberStatus, NodeId, Outcome, Verdict};
 use std::alloc::Global;
 
-/// How many LRAs there can be from a root down, with one to spare.
+/// The most LRAs on a path from a root down, and one more.
 const LEVELS: u8 = 9;
 
-/// An LRA, by the facts about it.
+/// An LRA as the facts about it describe it.
 #[derive(Drop)]
 pub struct Lra {
     id: LraId,
@@ -21,7 +21,7 @@ pub struct Lra {
     members: Vec<Member>,
 }
 
-/// A call that is due, by whom it goes to.
+/// A call that is due, and the participant that it goes to.
 #[derive(Clone, Copy, PartialEq, Eq, Debug)]
 pub struct DueCall {
     pub kind: Kind,
@@ -29,19 +29,19 @@ pub struct DueCall {
     pub member: u8,
 }
 
-/// What some facts say of all LRAs: of each home those that it began, in order.
+/// What a set of facts says about all LRAs: for each home the LRAs that it began, in order.
 #[derive(Drop)]
 pub struct Model {
     alloc: Global,
     homes: Vec<Vec<Lra>>,
 }
 
-/// Whether neither Done nor Failed was heard.
+/// Whether neither Done nor Failed was reported.
 fn is_pending(heard: Option<Outcome>) -> bool {
     matches!(heard, None | Some(Outcome::Busy))
 }
 
-/// What a participant shows whose LRA is closed.
+/// Returns what a participant shows if its LRA wants to close.
 fn closed_status(one: &Participant) -> MemberStatus {
     if one.links.complete().is_none() {
         return MemberStatus::Completed;
@@ -53,7 +53,7 @@ fn closed_status(one: &Participant) -> MemberStatus {
     }
 }
 
-/// What a participant shows whose LRA is cancelled.
+/// Returns what a participant shows if its LRA wants to cancel.
 fn cancelled_status(one: &Participant) -> MemberStatus {
     if one.links.compensate().is_none() {
         return MemberStatus::Compensated;
@@ -65,7 +65,7 @@ fn cancelled_status(one: &Participant) -> MemberStatus {
     }
 }
 
-/// What a participant shows of which its LRA wants this.
+/// Returns what a participant shows if its LRA wants this.
 fn status_of(one: &Participant, want: Option<Verdict>) -> MemberStatus {
     match want {
         None => MemberStatus::Active,
@@ -74,8 +74,8 @@ fn status_of(one: &Participant, want: Option<Verdict>) -> MemberStatus {
     }
 }
 
-/// How a participant is called that is to do an act: for its status, where it was busy and gave a
-/// link for that.
+/// Returns how a participant is called that has to do an act: for its status, if it was busy and
+/// gave a link for that.
 fn kind_of(one: &Participant, act: Act) -> Kind {
     let (heard, kind) = match act {
         Act::Complete => (one.completed, Kind::Complete),
@@ -88,7 +88,7 @@ fn kind_of(one: &Participant, act: Act) -> Kind {
     }
 }
 
-/// Whether a participant has the link and hasn't answered yet.
+/// Whether a participant has the link and its act is neither done nor failed.
 fn is_to_complete(one: &Participant) -> bool {
     one.links.complete().is_some() && is_pending(one.completed)
 }
@@ -97,12 +97,12 @@ fn is_to_compensate(one: &Participant) -> bool {
     one.links.compensate().is_some() && is_pending(one.compensated)
 }
 
-/// The number of the member at a place.
+/// Returns the number of the member at a place.
 fn number_at(place: usize) -> u8 {
     u8::try_from(place.saturating_add(1)).unwrap_or(u8::MAX)
 }
 
-/// The greater of what was heard before and what is heard now.
+/// Returns the greater of the outcome before and the outcome now.
 fn greater(before: Option<Outcome>, now: Outcome) -> Option<Outcome> {
     before.max(Some(now))
 }
@@ -112,13 +112,13 @@ fn is_among(lra: &Lra, numbers: &[u64]) -> bool {
     numbers.contains(&lra.id.num())
 }
 
-/// Where the LRAs of a home stand.
+/// Returns the place of a home's LRAs.
 fn slot_of(home: NodeId) -> usize {
     usize::from(home.number()).saturating_sub(1)
 }
 
 impl Model {
-    /// What no facts say.
+    /// Makes the model without any facts.
     pub fn new(alloc: Global, nodes: u8) -> Result<Model, Halt> {
         let mut homes = Vec::new(alloc);
         for _ in 0..nodes {
@@ -134,12 +134,12 @@ impl Model {
         }
     }
 
-    /// At which place of a home's list an LRA with this number stands, or would stand.
+    /// Returns the place in a home's list of the LRA with this number, or where it would be.
     fn place(&self, home: NodeId, num: u64) -> usize {
         self.home(home).partition_point(|lra| lra.id.num() < num)
     }
 
-    /// The LRA with this number at a home.
+    /// Returns the LRA with this number at a home.
     fn numbered(&self, home: NodeId, num: u64) -> Option<&Lra> {
         let Some(lra) = self.home(home).get(self.place(home, num)) else {
             return None;
@@ -184,7 +184,7 @@ impl Model {
         Ok(())
     }
 
-    /// An LRA in one that isn't held isn't held either.
+    /// Adds an LRA. If its parent isn't held, the LRA isn't held either.
     fn begin(&mut self, id: LraId, parent: Option<LraId>, deadline: u64) -> Result<(), Halt> {
         let Some(above) = parent else {
             return self.add_lra(id, None, deadline);
@@ -217,7 +217,7 @@ impl Model {
         }
     }
 
-    /// The numbers of the LRAs under a root, and its own.
+    /// Returns the numbers of a root and of all LRAs under it.
     fn numbers_under(&self, root: LraId) -> Result<Vec<u64>, Halt> {
         let mut numbers = Vec::new(self.alloc);
         for lra in self.home(root.home()) {
@@ -228,7 +228,7 @@ impl Model {
         Ok(numbers)
     }
 
-    /// A root isn't held any more, nor is what is nested in it.
+    /// Purges a root: neither it nor what is nested in it is held any more.
     fn purge(&mut self, root: LraId) -> Result<(), Halt> {
         let gone = self.numbers_under(root)?;
         if let Some(home) = self.homes.get_mut(slot_of(root.home())) {
@@ -282,7 +282,7 @@ impl Model {
         }
     }
 
-    /// One more fact is known.
+    /// Adds a fact.
     pub fn learn(&mut self, fact: &Fact) -> Result<(), Halt> {
         match &fact.body {
             Body::Begin { parent, deadline } => {
@@ -324,7 +324,7 @@ impl Model {
         top
     }
 
-    /// Whether an LRA or one above it is decided so.
+    /// Whether an LRA or one above it has this decision.
     fn is_decided(&self, lra: &Lra, verdict: Verdict) -> bool {
         let mut one = lra;
         for _ in 0..LEVELS {
@@ -349,7 +349,7 @@ impl Model {
         }
     }
 
-    /// Whether a participant under an LRA shows one of these, to this depth.
+    /// Whether a participant under an LRA shows one of these, down to this depth.
     fn shows_under(&self, lra: &Lra, wanted: &[MemberStatus], levels: u8) -> bool {
         if levels == 0 {
             return false;
@@ -412,7 +412,7 @@ impl Model {
         }
     }
 
-    /// What an LRA shows, if it is held.
+    /// Returns what an LRA shows, if it is held.
     pub fn shown_of(&self, id: LraId) -> Option<LraStatus> {
         match self.lra(id) {
             Some(lra) => Some(self.status(lra)),
@@ -420,8 +420,8 @@ impl Model {
         }
     }
 
-    /// The LRAs of the tree that one is in, if it is held: those whose statuses a fact about it can
-    /// change.
+    /// Returns all LRAs of the tree that an LRA is in, if it is held. These are the LRAs whose
+    /// statuses can change by a fact about it.
     pub fn tree(&self, id: LraId) -> Result<Vec<LraId>, Halt> {
         let mut ids = Vec::new(self.alloc);
         let Some(lra) = self.lra(id) else {
@@ -458,7 +458,7 @@ impl Model {
         }
     }
 
-    /// The one that is cancelled first for its deadline.
+    /// Returns the LRA that is the first to be cancelled for its deadline.
     pub fn first_overdue(&self, home: NodeId, now: u64) -> Option<LraId> {
         for lra in self.home(home) {
             if self.is_late(lra, now) {
@@ -468,7 +468,7 @@ impl Model {
         None
     }
 
-    /// How many member numbers of an LRA were given.
+    /// Returns how many member numbers an LRA has given out.
     pub fn members(&self, id: LraId) -> usize {
         match self.lra(id) {
             Some(lra) => lra.members.len(),
@@ -481,7 +481,7 @@ impl Model {
         self.want(lra).is_some() && !self.is_unsettled(lra)
     }
 
-    /// Whether a record says of an LRA what is known.
+    /// Whether a record agrees with what is known about an LRA.
     pub fn is_record(&self, id: LraId, record: &Record) -> bool {
         let Some(lra) = self.lra(id) else {
             return false;
@@ -492,8 +492,8 @@ impl Model {
             && lra.members.as_slice() == record.members.as_slice()
     }
 
-    /// The last participant under a cancelled LRA that is to compensate, to this depth: the first
-    /// to be called.
+    /// Returns the last participant under a cancelled LRA that has to compensate, down to this
+    /// depth. It is the first to be called.
     fn last_pending(&self, lra: &Lra, levels: u8) -> Option<DueCall> {
         if levels == 0 {
             return None;
@@ -536,7 +536,7 @@ impl Model {
         self.want(lra) == Some(Verdict::Cancel) || self.want(self.root(lra)).is_some()
     }
 
-    /// What is due of one participant, but to compensate.
+    /// Returns what is due for a participant, except to compensate.
     fn due_of(&self, lra: &Lra, one: &Participant, wanted: Kind) -> Option<Kind> {
         let is_due = match wanted {
             Kind::Complete => self.is_to_be_completed(lra, one),
@@ -554,7 +554,8 @@ impl Model {
         })
     }
 
-    /// Whether nobody under an LRA is to be told to forget, or of its end, to this depth.
+    /// Whether no participant under an LRA still has to forget or to be notified of the end, down
+    /// to this depth.
     fn is_free(&self, lra: &Lra, levels: u8) -> bool {
         if levels == 0 {
             return false;
@@ -600,7 +601,7 @@ impl Model {
         Ok(())
     }
 
-    /// Whether an LRA is cancelled itself, and none above it is.
+    /// Whether an LRA itself is cancelled and none above it is.
     fn is_topmost_cancelled(&self, lra: &Lra) -> bool {
         if lra.decision != Some(Verdict::Cancel) {
             return false;
@@ -637,7 +638,7 @@ impl Model {
         Ok(())
     }
 
-    /// Whom a home is to call, in order.
+    /// Returns which participants a home has to call, in order.
     pub fn dues(&self, home: NodeId) -> Result<Vec<DueCall>, Halt> {
         let mut dues = Vec::new(self.alloc);
         for wanted in [Kind::Complete, Kind::Compensate, Kind::Forget, Kind::After] {
@@ -647,7 +648,7 @@ impl Model {
     }
 }
 
-/// That a participant is to compensate, if it is.
+/// Returns the call with which a participant is to compensate, if it is.
 fn compensation_of(lra: &Lra, one: &Participant, place: usize) -> Option<DueCall> {
     if !is_to_compensate(one) {
         return None;

@@ -1,4 +1,4 @@
-// Pulls on their way between nodes, and what hosts of participants answer.
+// Pulls in transit between nodes, and the answers of participants' hosts.
 
 use crate::halt::Halt;
 use crate::luck::Luck;
@@ -6,22 +6,22 @@ use lra_callback::Kind;
 use lra_id::{Act, Front};
 use std::alloc::Global;
 
-/// Where a pull is.
+/// How far a pull has got.
 #[derive(Drop)]
 pub enum Stage {
-    /// The request is on its way.
+    /// The request is in transit.
     Asked,
-    /// The response is, with these bytes.
+    /// The response is in transit, with these bytes.
     Answered(Vec<u8>),
 }
 
-/// A pull on its way.
+/// A pull in transit.
 #[derive(Drop)]
 pub struct Pull {
-    /// The places of who asks and of who is asked.
+    /// The places of the node that pulls and of the node that is asked.
     pub asker: usize,
     pub teller: usize,
-    /// What the one that asks has.
+    /// The facts that the pulling node has.
     pub front: Front,
     pub stage: Stage,
 }
@@ -30,9 +30,9 @@ pub struct Pull {
 #[derive(Clone, Copy, Debug, PartialEq, Eq)]
 pub enum Manner {
     Well,
-    /// It accepts, and is to be asked again.
+    /// It accepts, and has to be asked again.
     Busy,
-    /// It can't do it.
+    /// It says that it can't do the act.
     Failing,
     /// It answers 503.
     Down,
@@ -46,7 +46,7 @@ pub enum Manner {
     Hangs,
 }
 
-/// What a host says of an act whose status it is asked for.
+/// Returns what a host says about an act when it is asked for the status.
 fn status_body(act: Act, manner: Manner) -> &'static str {
     match manner {
         Manner::Failing => match act {
@@ -87,7 +87,7 @@ impl Manner {
         }
     }
 
-    /// What it answers to a call of this kind, byte by byte.
+    /// Returns the answer to a call of this kind, byte by byte.
     pub fn answer(self, alloc: Global, kind: Kind, act: Act) -> Result<Vec<u8>, Halt> {
         let body = if kind == Kind::Status {
             status_body(act, self)

@@ -1,4 +1,4 @@
-// The calls of a file, which clauses alone read.
+// The calls of a file, which only clauses read.
 ghost use Rattle.std.specs.Prelude.{◌≡◌, [], ◌∷◌};
 ghost use Rattle.lra_luck.specs.Calls.{event_of};
 
@@ -6,7 +6,7 @@ use crate::noted::Noted;
 use std::marker::Model;
 use std::snapshot::Snapshot;
 
-/// The calls of a file, the newest first, which clauses alone read. It holds none of them and takes
+/// The calls of a file, the newest first, which only clauses read. It stores none of them and takes
 /// one byte, however many there are.
 #[derive(Drop)]
 pub struct Record {
@@ -33,7 +33,7 @@ impl Model for Record {
 }
 
 impl Record {
-    /// No call.
+    /// Makes a record of no calls.
     pub(crate) fn new() -> Record
         ensures { result ≡ [] }
     {
@@ -43,7 +43,7 @@ impl Record {
         }
     }
 
-    /// One call more, the newest.
+    /// Adds a call as the newest.
     pub(crate) fn note(&mut self, call: &Noted)
         ensures { self.new ≡ event_of call.now ∷ self.old }
     {
