@@ -1,5 +1,5 @@
-//! A run of a node that the simulator plays: a book over files in memory, some of whose calls fail, and
-//! what those who make calls keep of it.
+//! A run of a node in the simulator: a book over files in memory, some of whose calls fail, and the
+//! receipts that the book's callers keep.
 #![tactic(auto)]
 
 mod run;

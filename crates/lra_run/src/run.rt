@@ -1,5 +1,6 @@
-// A run of a node: its book, and what those who make calls keep of them. It is what a desk of lra_book is, without a lock
-// and without a ledger: a desk can't be kept in a value, since its type has to name the run that it is of.
+// A run of a node: its book, and the receipts that the book's callers keep. It does what a desk of
+// lra_book does, without a lock and without a ledger. A desk can't be stored in a value, because
+// its type has to name the run that it belongs to.
 ghost use Rattle.std.specs.Prelude.{◌≡◌, ◌≤◌, IfOk, None};
 ghost use Rattle.lra_id.specs.declared.TheConstants.{MAX_NODES};
 
@@ -10,13 +11,14 @@ use lra_luck::{Halt, Remains};
 use sqlite::{Alter, Connection};
 use std::alloc::Global;
 
-/// Who makes calls at a node: the thread that enters, and four workers.
+/// The callers of a node's book: the writer thread, and four workers.
 const PASSES: usize = 5;
 
-/// How many receipts are looked at before each call; at a run's end all are.
+/// The number of receipts that are checked before each call; at the end of a run all of them are.
 const LOOKED: usize = 8;
 
-/// A book whose run is on, and the receipts of those who make calls. They share a pass, which has seen all.
+/// A book with a run begun, and the receipts of its callers. They share one pass, which has seen
+/// all of them.
 #[derive(Drop)]
 pub struct Run<S: Alter + Drop> {
     alloc: Global,
@@ -27,11 +29,11 @@ pub struct Run<S: Alter + Drop> {
     files: Remains,
 }
 
-/// What comes of beginning a run over a journal.
+/// The result of beginning a run over a journal.
 #[derive(Drop)]
 pub(crate) enum Beginning<S: Alter + Drop> {
     Begun(Run<S>),
-    /// The book isn't opened: why, the connection, and its files.
+    /// The book wasn't opened: the reason, the connection, and its files.
     Refused(Refusal, Connection<S>, Remains),
 }
 
@@ -43,7 +45,7 @@ fn no_receipts(alloc: Global) -> Result<Vec<Vec<Receipt>>, Halt> {
     Ok(lists)
 }
 
-/// A book with no run on.
+/// Opens a book, with no run begun.
 fn book_of<S: Alter + Drop>(
     alloc: Global,
     connection: Connection<S>,
@@ -57,7 +59,7 @@ fn book_of<S: Alter + Drop>(
     Book::open(alloc, connection, me, usize::from(nodes))
 }
 
-/// A run of a book that has none.
+/// Begins a run of a book that has none.
 fn run_of<S: Alter + Drop>(alloc: Global, mut book: Book<S>, files: Remains) -> Result<Run<S>, Halt>
     requires { book.opening ≡ None }
 {
@@ -81,7 +83,7 @@ fn is_told(alloc: Global, entry: &Entry, receipt: &Receipt) -> Result<bool, Halt
     Ok(one == other)
 }
 
-/// Whether each receipt is the trail's entry at its place.
+/// Whether each receipt agrees with the trail's entry at its place.
 fn are_told(alloc: Global, trail: &[Entry], receipts: &[Receipt]) -> Result<bool, Halt> {
     for receipt in receipts {
         let Some(entry) = trail.get(place_of(receipt)) else {
@@ -98,7 +100,7 @@ fn place_of(receipt: &Receipt) -> usize {
     usize::try_from(receipt.index).unwrap_or(usize::MAX)
 }
 
-/// Marks the places of receipts, of which none was marked before. It says whether that is so.
+/// Marks the places of receipts. Returns false if one was marked before.
 fn mark(receipts: &[Receipt], marked: &mut [bool]) -> bool {
     for receipt in receipts {
         let Some(slot) = marked.get_mut(place_of(receipt)) else {
@@ -112,7 +114,7 @@ fn mark(receipts: &[Receipt], marked: &mut [bool]) -> bool {
     true
 }
 
-/// Makes room for one more in the list at a place.
+/// Makes room for one more item in the list at a place.
 fn reserve<T>(lists: &mut [Vec<T>], place: usize) -> Result<(), Refusal> {
     let Some(list) = lists.get_mut(place) else {
         return Err(Refusal::Stopped);
@@ -121,7 +123,7 @@ fn reserve<T>(lists: &mut [Vec<T>], place: usize) -> Result<(), Refusal> {
     Ok(())
 }
 
-/// Puts one more in the list at a place.
+/// Appends an item to the list at a place.
 fn keep<T: Drop>(lists: &mut [Vec<T>], place: usize, one: T) -> Result<(), Refusal> {
     let Some(list) = lists.get_mut(place) else {
         return Err(Refusal::Stopped);
@@ -132,7 +134,7 @@ fn keep<T: Drop>(lists: &mut [Vec<T>], place: usize, one: T) -> Result<(), Refus
     Ok(())
 }
 
-/// The last few of a list.
+/// Returns the last few items of a list.
 fn newest<T>(list: &[T]) -> &[T] {
     &list[list.len().saturating_sub(LOOKED)..]
 }
@@ -146,7 +148,7 @@ fn are_all(marked: &[bool]) -> bool {
     true
 }
 
-/// A run of the book over a journal that no run is on.
+/// Begins a run of the book over a journal on which no run is open.
 pub(crate) fn begin<S: Alter + Drop>(
     alloc: Global,
     connection: Connection<S>,
@@ -166,18 +168,18 @@ pub(crate) fn begin<S: Alter + Drop>(
     }
 }
 
-/// That receipts and trail differ.
+/// Reports that receipts and trail differ.
 fn differ(alloc: Global) -> Result<Halt, Halt> {
     Ok(Halt::Found(format!(in alloc; "receipts and trail differ")?))
 }
 
 impl<S: Alter + Drop> Run<S> {
-    /// The facts that its book has.
+    /// Returns the facts that the book has.
     pub(crate) fn book_front(&self) -> Front {
         self.book.front()
     }
 
-    /// Whether the receipts of one who makes calls stand in the trail.
+    /// Checks that a caller's receipts are in the trail.
     fn look(&self, receipts: &[Receipt]) -> Result<(), Refusal> {
         self.book.look(&self.pass, receipts)
     }
@@ -189,7 +191,8 @@ impl<S: Alter + Drop> Run<S> {
         self.book.call(self.alloc, &mut self.pass, call, now)
     }
 
-    /// Makes room for the receipt of one who makes calls, and looks whether the newest others stand in the trail.
+    /// Makes room for a caller's receipt, and checks that the newest of its other receipts are in
+    /// the trail.
     fn make_room(&mut self, caller: usize) -> Result<(), Refusal> {
         reserve(&mut self.kept, caller)?;
         match self.kept.get(caller) {
@@ -198,7 +201,7 @@ impl<S: Alter + Drop> Run<S> {
         }
     }
 
-    /// Makes a call at a moment for one who makes calls.
+    /// Makes a call for a caller at a given time.
     pub(crate) fn make(&mut self, caller: usize, call: Call, now: u64) -> Result<Reply, Refusal> {
         self.make_room(caller)?;
         let receipt = match self.enter(call, now) {
@@ -210,7 +213,7 @@ impl<S: Alter + Drop> Run<S> {
         Ok(reply)
     }
 
-    /// Whether receipts stand in the trail, also where the journal failed.
+    /// Whether receipts are in the trail, even if the journal failed.
     fn stand(&self, receipts: &[Receipt]) -> Result<bool, Halt> {
         let Err(refusal) = self.look(receipts) else {
             return Ok(true);
@@ -221,7 +224,7 @@ impl<S: Alter + Drop> Run<S> {
         are_told(self.alloc, self.book.trail(), receipts)
     }
 
-    /// Whether the receipts are the trail's entries, each once.
+    /// Whether the receipts are exactly the trail's entries, each once.
     fn is_whole(&self) -> Result<bool, Halt> {
         let mut marked: Vec<bool> = Vec::new(self.alloc);
         marked.resize(self.book.trail().len(), false)?;
@@ -233,7 +236,7 @@ impl<S: Alter + Drop> Run<S> {
         Ok(are_all(&marked))
     }
 
-    /// The connection and its files, once the run is over.
+    /// Ends the run and returns the connection and its files.
     pub(crate) fn end(self) -> Result<(Connection<S>, Remains), Halt> {
         if !self.is_whole()? {
             return Err(differ(self.alloc)?);

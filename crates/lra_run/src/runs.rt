@@ -1,4 +1,4 @@
-// A run as a node has it, which needn't know over what.
+// A run as a node uses it, whatever the book is stored on.
 
 use crate::run::{Beginning, Run, begin};
 use lra_book::{Call, Reply};
@@ -8,18 +8,18 @@ use lra_luck::{Fate, Halt, Image, Luck, Remains, Store};
 use sqlite::Connection;
 use std::alloc::Global;
 
-/// What comes of opening a journal.
+/// The result of opening a journal.
 #[derive(Drop)]
 pub enum Opening<R: Drop> {
-    /// A run of its book.
+    /// A run of the book.
     Begun(R),
-    /// A call of its files failed: this is left of them.
+    /// A call of the files failed, and this is left of them.
     Failed(Remains),
 }
 
 /// A run of a node's book over its disk.
 pub trait Runs: Drop + Sized {
-    /// The first run of a node's book over a copy of its disk, of which calls may fail.
+    /// Begins the first run of a node's book over a copy of its disk, some of whose calls may fail.
     fn open(
         alloc: Global,
         copy: &Image,
@@ -29,25 +29,25 @@ pub trait Runs: Drop + Sized {
         nodes: u8,
     ) -> Result<Opening<Self>, Halt>;
 
-    /// The next run of its book, over the same files.
+    /// Begins the next run of the book, over the same files.
     fn next(self, alloc: Global, me: NodeId, nodes: u8) -> Result<Opening<Self>, Halt>;
 
-    /// The facts that its book has.
+    /// Returns the facts that the book has.
     fn front(&self) -> Front;
 
-    /// Makes a call at a moment for one who makes calls.
+    /// Makes a call for a caller at a given time.
     fn call(&mut self, caller: usize, call: Call, now: u64) -> Result<Reply, Refusal>;
 
-    /// What is left of its files, once it is over.
+    /// Ends the run and returns what is left of its files.
     fn close(self) -> Result<Remains, Halt>;
 }
 
-/// Closes a connection, with its files as they are.
+/// Closes a connection and leaves its files as they are.
 fn close(connection: Connection<Store>) {
     drop(connection.into_store().close());
 }
 
-/// What is left where a book isn't opened. Only a disk may be at fault.
+/// Returns what is left if a book isn't opened. Only a disk may be at fault.
 fn left_by(alloc: Global, refusal: Refusal, files: Remains) -> Result<Opening<Run<Store>>, Halt> {
     if refusal == Refusal::JournalFailed {
         return Ok(Opening::Failed(files));
