@@ -1,15 +1,18 @@
-//! The program: a server of one to eight nodes, or a script of commands over as many.
+//! The program: a server of one to eight nodes, a script of commands over as many, or members of a
+//! group whose other nodes run in processes of their own.
 #![tactic(auto)]
 
+mod member;
+
 ghost use Rattle.lra_id.specs.declared.TheConstants.{MAX_NODES};
-ghost use Rattle.lra_node.specs.Arguments.{AskServer};
-ghost use Rattle.std.specs.Prelude.{◌≤◌, ℕ, List, MatchOption, map, string_bytes};
+ghost use Rattle.lra_node.specs.Arguments.{AskMember, AskServer, IsOldName, IsPossible};
+ghost use Rattle.std.specs.Prelude.{◌≤◌, ℕ, IfOk, List, MatchBool, MatchOption, map, string_bytes};
 
 use log::{Level, Log, Logged};
 use lra_http::{OverRead, OverWrite};
 use lra_id::MAX_NODES;
 use lra_script::{Ended, arguments, code_of, node_of, play};
-use lra_server::{Folder, Stores, UnknownFiles, hold, serve};
+use lra_server::{Folder, Members, Stores, UnknownFiles, hold, serve, serve_members};
 use lra_threads::{ToLines, lines_of};
 use std::alloc::Global;
 use std::io::Read;
@@ -22,56 +25,82 @@ use std::{env, io};
 
 const USAGE: &str = "usage: lra_node script N | serve N PORT DIR";
 
-/// The least port of a first node.
+/// The least port of the first node.
 const FIRST_PORT: u16 = 1_024;
 
-/// The greatest: eight nodes have their ports behind it.
+/// The greatest port of the first node: the ports of eight nodes follow it.
 const LAST_PORT: u16 = 65_528;
 
-/// How long the last warnings have to be written at the end, in milliseconds.
+/// How many milliseconds the program waits at its end until the last warnings are written.
 const LAST_LINES_MS: u64 = 500;
 
-/// Runs a server until standard input ends, or plays a script over standard input. Each gives its
-/// exit status, as `serve` and `play` say. Where the arguments ask for something else it ends with
-/// 2, and the usage. Std has no clause on arguments, so tests/serve.py shows that the folder is
-/// handed on.
-fn main(rt: HostRuntime) -> ExitCode {
-    let Ok(given) = env::args(&rt) else {
-        return ExitCode::from(1);
-    };
-    let Ok(words) = arguments(rt.alloc(), given) else {
-        return ExitCode::from(1);
-    };
-    let Some((nodes, port)) = asked_server(&words) else {
-        return ExitCode::from(played(&rt, &words).status());
-    };
-    let _held = (hold(&rt), hold(&rt), hold(&rt));
-    let (alloc, input) = (rt.alloc(), rt.reader());
-    let Some(lines) = lines_of(&rt, rt, alloc) else {
-        let _ = eprintln!(rt; "run 1");
-        return ExitCode::from(1);
-    };
-    let to_lines = ToLines {
-        rt: &rt,
-        alloc,
-        lines: &lines,
-    };
-    let logged = Logged::new(&rt, Level::Info, to_lines);
-    let folder = folder_of(rt, words);
-    let status = run_nodes(&rt, &logged, rt, alloc, nodes, port, &folder, input);
-    lines.wait(&rt, Duration::from_millis(LAST_LINES_MS));
-    ExitCode::from(status)
+/// What the program was called while it was a program of its own that ran members alone. A link of
+/// this name still does.
+const OLD_NAME: &str = "lra_member";
+
+/// Whether the program was started by its old name.
+fn is_old_name(name: &str) -> bool
+    ensures { MatchBool result (IsOldName name.now) (IsOldName name.now → ⊥) }
+{
+    name.strip_suffix(OLD_NAME).is_some()
 }
 
-/// Runs the nodes, as `serve` says. Its bounds name the sockets, which the borrow checker has to
-/// find where a host is handed over.
+/// Whether the program was started by its old name, which the first of its arguments says.
+fn has_old_name(rt: &HostRuntime) -> bool {
+    let Ok(mut given) = env::args(rt) else {
+        return false;
+    };
+    match given.next() {
+        Some(name) => is_old_name(name.as_str()),
+        None => false,
+    }
+}
+
+/// Returns the words that say which members to run, if the words ask for members.
+fn member_words(has_old_name: bool, words: &[String]) -> Option<&[String]>
+    ensures { MatchOption result
+        ((given : List (List ℕ)) → AskMember has_old_name (map string_bytes words.now) given → ⊥)
+        (λ given. AskMember has_old_name (map string_bytes words.now) (map string_bytes given.now)) }
+{
+    if has_old_name {
+        return Some(words);
+    }
+    let Some((first, rest)) = words.split_first() else {
+        return None;
+    };
+    if first.as_str() != "member" {
+        return None;
+    }
+    Some(rest)
+}
+
+/// What the words ask of the program, other than a script.
+#[derive(Drop)]
+enum Job {
+    /// A server of so many nodes, of which the first listens at this port.
+    Server { nodes: u8, port: u16 },
+    Members(Members),
+}
+
+impl Job {
+    /// Returns the number of the first node.
+    fn first(&self) -> u8 {
+        match self {
+            Job::Server { nodes: _, port: _ } => 1,
+            Job::Members(members) => members.first,
+        }
+    }
+}
+
+/// Runs the nodes that are asked for until standard input ends, and returns the exit status of `serve`
+/// or `serve_members`. Its bounds name the sockets, because the borrow checker has to find them where
+/// a host is handed over.
 fn run_nodes<R, L, H, S, I>(
     rt: &R,
     log: &L,
     host: H,
     alloc: Global,
-    nodes: u8,
-    port: u16,
+    job: Job,
     stores: &S,
     input: I,
 ) -> u8
@@ -81,10 +110,64 @@ where
     H: Wait + Send + Drop + 'static,
     S: Stores + Sync,
     I: Read + Send + Drop + 'static,
-    requires nodes { (1 ≤ nodes) × (nodes ≤ MAX_NODES) }
+    requires nodes { IsPossible job }
     ensures status { result ≤ 1 }
 {
-    serve(rt, log, host, alloc, nodes, port, stores, input)
+    match job {
+        Job::Server { nodes, port } => serve(rt, log, host, alloc, nodes, port, stores, input),
+        Job::Members(members) => serve_members(rt, log, host, alloc, members, stores, input),
+    }
+}
+
+/// Returns what the words ask for, with the folder in which the journals lie; or, if there is nothing
+/// to run, the exit status.
+fn job_of(rt: &HostRuntime, mut words: Vec<String>) -> Result<(Job, String), u8>
+    ensures { IfOk result (λ made. IsPossible made.0) }
+{
+    if let Some(words) = member_words(has_old_name(rt), &words) {
+        return match member::members_of(rt, words) {
+            Ok((members, folder)) => Ok((Job::Members(members), folder)),
+            Err(status) => Err(status),
+        };
+    }
+    let Some((nodes, port)) = asked_server(&words) else {
+        return Err(played(rt, &words).status());
+    };
+    let folder = words.pop().unwrap_or(String::new(rt.alloc()));
+    Ok((Job::Server { nodes, port }, folder))
+}
+
+/// Runs a server until standard input ends, plays a script over standard input, or runs members of a
+/// group. Each returns its exit status, as `serve`, `play` and `serve_members` say. If the arguments
+/// ask for something else, the status is 2, and the usage is printed. Std has no clause on arguments,
+/// so tests/serve.py shows that the folder is handed on.
+fn main(rt: HostRuntime) -> ExitCode {
+    let Ok(given) = env::args(&rt) else {
+        return ExitCode::from(1);
+    };
+    let Ok(words) = arguments(rt.alloc(), given) else {
+        return ExitCode::from(1);
+    };
+    let (job, folder) = match job_of(&rt, words) {
+        Ok(made) => made,
+        Err(status) => return ExitCode::from(status),
+    };
+    let _held = (hold(&rt), hold(&rt), hold(&rt));
+    let (alloc, input) = (rt.alloc(), rt.reader());
+    let Some(lines) = lines_of(&rt, rt, alloc) else {
+        let _ = eprintln!(rt; "run {}", job.first());
+        return ExitCode::from(1);
+    };
+    let to_lines = ToLines {
+        rt: &rt,
+        alloc,
+        lines: &lines,
+    };
+    let logged = Logged::new(&rt, Level::Info, to_lines);
+    let folder = Folder::new(rt, folder, UnknownFiles);
+    let status = run_nodes(&rt, &logged, rt, alloc, job, &folder, input);
+    lines.wait(&rt, Duration::from_millis(LAST_LINES_MS));
+    ExitCode::from(status)
 }
 
 /// Plays a script from standard input to standard output.
@@ -94,15 +177,7 @@ fn played(rt: &HostRuntime, words: &[String]) -> Ended {
     play(rt, words, USAGE, &mut reader, &mut writer)
 }
 
-/// The folder that the last word names.
-fn folder_of(rt: HostRuntime, mut words: Vec<String>) -> Folder<UnknownFiles> {
-    Folder::new(
-        rt,
-        words.pop().unwrap_or(String::new(rt.alloc())),
-        UnknownFiles,
-    )
-}
-
+/// Returns how many nodes the words ask a server of, and the port of its first node.
 fn asked_server(words: &[String]) -> Option<(u8, u16)>
     ensures { MatchOption result ((nodes port : ℕ) (folder : List ℕ) →
         AskServer (map string_bytes words.now) nodes port folder → ⊥) (λ asked. (folder : List ℕ)

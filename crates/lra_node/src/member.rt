@@ -1,0 +1,129 @@
+// Members of a group: one node, or some, whose other nodes run in processes of their own.
+
+ghost use Rattle.lra_id.specs.declared.TheConstants.{MAX_NODES};
+ghost use Rattle.lra_work.specs.Groups.{is_group_name};
+ghost use Rattle.std.specs.Prelude.{◌≡◌, ◌≤◌, IfNone, IfOk, IfSome, IsFalse, IsSomeAnd, min, option_map, string_bytes, unwrap_or, vec_len};
+
+use lra_mailbox::Keep;
+use lra_server::Members;
+use lra_threads::{Build, Wants};
+use lra_words::{Asked, COMMIT, KIT, Unasked, VERSION, asked_by, is_version};
+use lra_work::GroupName;
+use std::alloc::Global;
+
+const USAGE: &str =
+    "usage: lra_node member I|I-J DIR [listen=IP:PORT] [operate=IP:PORT] [names=NAME,..] [keep=MS] [keep-failed=MS] [group=NAME] [copies=K] [patience=MS] [strict] [anew] HOST:PORT.. | lra_node member --version";
+
+/// How many milliseconds an answer waits for copies, if the words don't say it.
+const PATIENCE_MS: u64 = 1_000;
+
+/// The members that the words ask for, and the folder in which their journals lie.
+#[derive(Drop)]
+struct AskedMembers {
+    members: Members,
+    folder: String,
+}
+
+/// Makes the settings for copies: how many are wanted, how long an answer waits for them, and
+/// whether it is withheld after that.
+fn wants_of(copies: Option<u64>, patience: Option<u64>, is_strict: bool) -> Wants
+    ensures { result ≡ record { copies = min (unwrap_or copies 0) 7; patience_ms = unwrap_or patience 1000; is_strict = is_strict } }
+{
+    Wants {
+        copies: copies.unwrap_or(0).min(7) as u8,
+        patience_ms: patience.unwrap_or(PATIENCE_MS),
+        is_strict,
+    }
+}
+
+/// Returns the members that are asked for, and the folder in which their journals lie; `None` if the
+/// group's name is no such name.
+fn members_from(asked: Asked, build: Build) -> Option<(Members, String)>
+    ensures nodes { IfSome result (λ made. (made.0.first ≡ asked.first) × (made.0.last ≡ asked.last)
+        × (made.0.peers ≡ asked.peers) × (made.1 ≡ asked.folder)) }
+    ensures choices { IfSome result (λ made. (made.0.listen ≡ asked.listen) × (made.0.operate ≡ asked.operate)
+        × (made.0.names ≡ asked.names) × (made.0.keep.ended ≡ asked.ended) × (made.0.keep.failed ≡ asked.failed)
+        × (made.0.group ≡ option_map string_bytes asked.group)
+        × (made.0.wants.copies ≡ min (unwrap_or asked.copies 0) 7) × (made.0.wants.patience_ms ≡ unwrap_or asked.patience 1000)
+        × (made.0.wants.is_strict ≡ asked.strict) × (made.0.anew ≡ asked.anew)
+        × (made.0.build ≡ build)) }
+    ensures none { IfNone result (IsSomeAnd asked.group (λ name. IsFalse (is_group_name (string_bytes name)))) }
+{
+    let Asked {
+        first,
+        last,
+        folder,
+        listen,
+        operate,
+        names,
+        ended,
+        failed,
+        group,
+        copies,
+        patience,
+        strict,
+        anew,
+        peers,
+    } = asked;
+    let group = match group {
+        Some(text) => {
+            let Some(name) = GroupName::new(text) else {
+                return None;
+            };
+            Some(name)
+        }
+        None => None,
+    };
+    let members = Members {
+        first,
+        last,
+        peers,
+        listen,
+        operate,
+        names,
+        keep: Keep { ended, failed },
+        group,
+        wants: wants_of(copies, patience, strict),
+        anew,
+        build,
+    };
+    Some((members, folder))
+}
+
+/// Returns what the words ask for.
+fn given_by(alloc: Global, words: &[String]) -> Result<AskedMembers, Unasked>
+    ensures { IfOk result (λ given. (1 ≤ vec_len given.members.peers)
+        × (vec_len given.members.peers ≤ MAX_NODES)) }
+{
+    let asked = match asked_by(alloc, words) {
+        Ok(asked) => asked,
+        Err(fault) => return Err(fault),
+    };
+    let Ok(build) = Build::said(alloc, VERSION, COMMIT, KIT) else {
+        return Err(Unasked::NoMemory);
+    };
+    let Some((members, folder)) = members_from(asked, build) else {
+        return Err(Unasked::OtherWords);
+    };
+    Ok(AskedMembers { members, folder })
+}
+
+/// Returns the members that the words ask for, with the folder in which their journals lie. If there is
+/// nothing to run, it prints which build this is or the usage, and returns the exit status: 0 if the
+/// words ask for the version, 2 if they ask for nothing, 1 if memory ran out.
+pub fn members_of(rt: &HostRuntime, words: &[String]) -> Result<(Members, String), u8>
+    ensures { IfOk result (λ made. (1 ≤ vec_len made.0.peers) × (vec_len made.0.peers ≤ MAX_NODES)) }
+{
+    if is_version(words) {
+        let _ = println!(rt; "lra_node {}, commit {}, {}", VERSION, COMMIT, KIT);
+        return Err(0);
+    }
+    match given_by(rt.alloc(), words) {
+        Ok(AskedMembers { members, folder }) => Ok((members, folder)),
+        Err(Unasked::NoMemory) => Err(1),
+        Err(Unasked::OtherWords) => {
+            let _ = eprintln!(rt; "{}", USAGE);
+            Err(2)
+        }
+    }
+}
