@@ -100,8 +100,7 @@ impl Known {
         self.model.is_record(id, record)
     }
 
-    /// Adds the facts that this front counts and the node didn't have, all of which other nodes
-    /// recorded before.
+    /// Moves the node on to a front, all of whose facts it had or are in the history.
     pub fn grow(&mut self, history: &History, front: Front, now: u64) -> Result<(), Halt> {
         let had = self.front;
         let mut touched = Vec::new(self.alloc);
