@@ -1,13 +1,13 @@
-// Whom a node calls.
+// The participants that a node calls.
 
 use lra_callback::{Duties, Duty};
 use lra_luck::{DueCall, Halt};
 use std::alloc::Global;
 
-/// How many hosts participants are at.
+/// The number of hosts that participants are on.
 pub const HOSTS: usize = 5;
 
-/// A call, by whom it goes to.
+/// Returns the call for a duty, and the participant that it goes to.
 pub fn due_call(duty: &Duty) -> DueCall {
     DueCall {
         kind: duty.kind,
@@ -29,7 +29,7 @@ pub fn is_among(listed: &[DueCall], who: &DueCall) -> bool {
     false
 }
 
-/// The place of the host of a link `http://h1/..`.
+/// Returns the place of the host of a link `http://h1/..`.
 pub fn host_of(duty: &Duty) -> usize {
     let number = duty
         .link
@@ -41,7 +41,7 @@ pub fn host_of(duty: &Duty) -> usize {
     usize::from(number.saturating_sub(b'1')) % HOSTS
 }
 
-/// Whom a list names.
+/// Returns the calls on a list.
 pub fn named_on(alloc: Global, duties: &Duties) -> Result<Vec<DueCall>, Halt> {
     let mut listed = Vec::new(alloc);
     for duty in duties.as_slice() {
@@ -50,7 +50,7 @@ pub fn named_on(alloc: Global, duties: &Duties) -> Result<Vec<DueCall>, Halt> {
     Ok(listed)
 }
 
-/// Whether two lists name the same, in the same order.
+/// Whether two lists have the same calls, in the same order.
 pub fn are_same(ones: &[DueCall], others: &[DueCall]) -> bool {
     for (one, other) in ones.iter().zip(others.iter()) {
         if !is_same(one, other) {

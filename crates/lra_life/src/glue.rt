@@ -1,4 +1,4 @@
-// What is to be known of calls, commands, facts and replies.
+// What has to be known about calls, commands, facts and replies.
 
 use lra_book::{Call, Reply};
 use lra_facts::{Body, Command, CommandReply, Fact};
@@ -8,11 +8,11 @@ use lra_noting::{body_of_all, enters, freed_by, heard_by, is_completion};
 use lra_turns::Called;
 use std::alloc::{AllocError, Global};
 
-/// What is to be known of a call once it is made.
+/// What has to be known about a call once it is made.
 #[derive(Drop)]
 pub struct Asked {
     pub command: Option<Command>,
-    /// The front to which a frame leads that is taken.
+    /// The front to which the frame leads that the call takes.
     pub taken: Option<Front>,
     pub is_sweep: bool,
     pub enters: bool,
@@ -54,12 +54,12 @@ impl Asked {
     }
 }
 
-/// The pull of one that has all facts that there can be of so many nodes.
+/// Makes the pull of a node that has all facts that there can be in a group of `nodes` nodes.
 pub fn pull_of_all(alloc: Global, nodes: u8) -> Result<Call, Halt> {
     Ok(Call::Pull(body_of_all(alloc, nodes.clamp(1, MAX_NODES))?))
 }
 
-/// The LRA that a command names.
+/// Returns the LRA that a command names.
 pub fn named_by(command: &Command) -> Option<LraId> {
     match command {
         Command::Begin { parent, .. } => *parent,
@@ -73,7 +73,7 @@ pub fn named_by(command: &Command) -> Option<LraId> {
     }
 }
 
-/// The LRA that a call's command names, if it is a command.
+/// Returns the LRA that a call's command names, if the call is a command.
 pub fn named_in(asked: &Asked) -> Option<LraId> {
     match &asked.command {
         Some(command) => named_by(command),
@@ -81,7 +81,7 @@ pub fn named_in(asked: &Asked) -> Option<LraId> {
     }
 }
 
-/// Where a frame leads to that was taken.
+/// Returns the front to which a frame leads, if it was taken.
 pub fn taken_by(asked: &Asked, reply: &Reply) -> Option<Front> {
     match reply {
         Reply::Took => asked.taken,
@@ -89,7 +89,7 @@ pub fn taken_by(asked: &Asked, reply: &Reply) -> Option<Front> {
     }
 }
 
-/// The root that a call was to purge, where it was purged.
+/// Returns the root that a call was to purge, if it was purged.
 pub fn purged_root(asked: &Asked, reply: &Reply) -> Option<LraId> {
     match (&asked.command, reply) {
         (Some(Command::Purge { root }), Reply::Command(CommandReply::Purged)) => Some(*root),
@@ -97,7 +97,8 @@ pub fn purged_root(asked: &Asked, reply: &Reply) -> Option<LraId> {
     }
 }
 
-/// The member number that a command was given, or 0, if it stored anything.
+/// Returns the member number that a command was given, or 0 if it was given none, provided that it
+/// stored anything.
 fn given_by(reply: &CommandReply) -> Option<u8> {
     match reply {
         CommandReply::Known | CommandReply::Refused(_) => None,
@@ -106,7 +107,7 @@ fn given_by(reply: &CommandReply) -> Option<u8> {
     }
 }
 
-/// What is stored of a call of a node that was replied so: a fact's body.
+/// Returns what a call of a node stored, if it had this reply: the body of a fact.
 pub fn stored(asked: Asked, reply: &Reply) -> Option<Body> {
     let given = match reply {
         Reply::Expired(id) => return Some(cancel(*id)),
@@ -119,7 +120,7 @@ pub fn stored(asked: Asked, reply: &Reply) -> Option<Body> {
     Some(body_of(command, given))
 }
 
-/// That an LRA is cancelled.
+/// Returns the decision that cancels an LRA.
 pub fn cancel(id: LraId) -> Body {
     Body::Decide {
         id,
@@ -127,7 +128,7 @@ pub fn cancel(id: LraId) -> Body {
     }
 }
 
-/// What a command enters, where a participant joins under this member number.
+/// Returns the fact that a command stores, if a participant that joins gets this member number.
 pub fn body_of(command: Command, given: u8) -> Body {
     match command {
         Command::Begin { parent, deadline } => Body::Begin { parent, deadline },

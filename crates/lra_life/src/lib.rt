@@ -1,5 +1,5 @@
-//! A node that the simulator plays: what is there of it while it runs, what outlives that, and whether what
-//! it says is what its facts say.
+//! A node in the simulator: its state while it runs, what outlives that, and checks that what the
+//! node says agrees with its facts.
 #![tactic(auto)]
 
 mod due;

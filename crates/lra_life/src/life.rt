@@ -1,5 +1,5 @@
-// What is there of a node from a start to the next stop. `hear_telling` stands once more in lra_threads/src/following.rt,
-// `take_over`.
+// The state of a node from a start to the next stop. `hear_telling` does what `take_over` of
+// lra_threads/src/following.rt does.
 
 use crate::due::{host_of, is_among, is_same};
 use crate::glue::Asked;
@@ -17,37 +17,38 @@ use lra_turns::Due;
 use std::alloc::Global;
 use std::time::Duration;
 
-/// How many threads of a node call participants.
+/// The number of caller threads of a node.
 const CALLERS: usize = 4;
 
 /// How long operators wait for a call, in milliseconds.
 const ERRAND_MS: u64 = 5_000;
 
-/// How long a node waits for the others before it enters something, in milliseconds.
+/// How long a node waits for the others before it stores something, in milliseconds.
 const LATE_MS: u64 = 1_000;
 
-/// A participant that is called.
+/// A participant that is being called.
 #[derive(Drop)]
 struct InFlight {
     due: Due,
     began: u64,
 }
 
-/// A call that operators want made.
+/// A call that operators want.
 #[derive(Drop)]
 struct Errand {
     call: Call,
     until: u64,
 }
 
-/// What another node told that waits in the mailbox, or is being taken.
+/// What another node sent that waits in the mailbox, or is being taken.
 #[derive(Clone, Copy)]
 struct Awaited {
     from: NodeId,
     front: Front,
 }
 
-/// How many facts of a node another claimed to have when it asked, and how often it answered since.
+/// The number of facts of this node that another node claimed to have when it asked, and how often
+/// it has answered since.
 #[derive(Clone, Copy)]
 struct Claim {
     other: NodeId,
@@ -55,41 +56,42 @@ struct Claim {
     answers: u64,
 }
 
-/// How often one answers until nothing is waited for any more that it claimed before.
+/// The number of answers of a node after which nothing that it claimed before is waited for.
 const ANSWERS: u64 = 2;
 
-/// How a life began, and whom it has heard since.
+/// How a life began, and which nodes it has heard from since.
 #[derive(Drop)]
 struct Start {
     at: u64,
     waits_for_all: bool,
-    /// Whom it has heard, by their places.
+    /// The nodes that it has heard from, by their places.
     heard: Vec<usize>,
-    /// How many facts of this node others told of.
+    /// The number of facts of this node that others have sent.
     told_own: u64,
-    /// What others claim to have beside that.
+    /// What others claim to have beyond that.
     claims: Vec<Claim>,
 }
 
-/// What is there of a node from a start to the next stop.
+/// The state of a node from a start to the next stop.
 #[derive(Drop)]
 pub struct Life<R: Runs> {
     run: Option<R>,
     state: MailboxState,
-    /// What the thread that enters is about to do.
+    /// What the writer thread is about to do.
     task: Option<Task>,
     calls: Vec<InFlight>,
-    /// What operators want made, and until when they wait for it.
+    /// The call that operators want, and until when they wait for it.
     errand: Option<Errand>,
-    /// What others told that waits for room in the mailbox.
+    /// What others sent that waits for room in the mailbox.
     tellings: Vec<Telling>,
     awaited: Vec<Awaited>,
-    /// Whom the newest list names who was neither heard nor entered since.
+    /// The calls of the newest list whose participants haven't answered since, or whose answers
+    /// aren't stored yet.
     listed: Vec<DueCall>,
     start: Start,
 }
 
-/// A moment of the monotonic clock.
+/// Returns a moment of the monotonic clock.
 pub fn at(now: u64) -> Duration {
     Duration::from_millis(now)
 }
@@ -105,7 +107,7 @@ impl Start {
         }
     }
 
-    /// Notes that a node answered, and told how many facts of this one it has.
+    /// Records that a node answered, and how many facts of this node it sent.
     fn hear(&mut self, place: usize, other: NodeId, told_own: u64) -> Result<(), Halt> {
         self.told_own = self.told_own.max(told_own);
         self.heard.push(place)?;
@@ -117,7 +119,7 @@ impl Start {
         Ok(())
     }
 
-    /// Notes that a node asked as one that has so many facts of this one.
+    /// Records that a node asked and counts this many facts of this node.
     fn claim(&mut self, other: NodeId, count: u64) -> Result<(), Halt> {
         self.claims.push(Claim {
             other,
@@ -127,7 +129,7 @@ impl Start {
         Ok(())
     }
 
-    /// Whether one with so many facts of its own has all that is claimed.
+    /// Whether a node with this many facts of its own has all that others claim.
     fn is_met(&self, own: u64) -> bool {
         for claim in self.claims.iter() {
             if claim.answers < ANSWERS && claim.count > own {
@@ -137,7 +139,7 @@ impl Start {
         true
     }
 
-    /// Whether all of so many nodes were heard but the one at this place.
+    /// Whether all nodes of a group, except the one at this place, have been heard from.
     fn has_heard_all(&self, place: usize, count: usize) -> bool {
         for other in 0..count {
             if other != place && !self.heard.contains(&other) {
@@ -149,7 +151,7 @@ impl Start {
 }
 
 impl<R: Runs> Life<R> {
-    /// A life that begins at a moment, of one of so many nodes.
+    /// Begins the life of a node in a group of `nodes` nodes.
     pub fn new(
         alloc: Global,
         me: NodeId,
@@ -175,51 +177,52 @@ impl<R: Runs> Life<R> {
         }
     }
 
-    /// Whether its journal is closed.
+    /// Whether the journal is closed.
     pub fn is_shut(&self) -> bool {
         self.run.is_none()
     }
 
-    /// Whether it may enter something of its own.
+    /// Whether the node may store something of its own.
     pub fn is_open(&self) -> bool {
         self.state.is_open()
     }
 
-    /// When it began.
+    /// Returns when the life began.
     pub fn began_at(&self) -> u64 {
         self.start.at
     }
 
-    /// Whether it may enter something: the others were heard, or for a second none that has more than so many facts of
-    /// this node, which stands at this place of so many.
+    /// Whether the node, at this place of a group, may store something: the others have been heard
+    /// from or, after a second, none of them has more facts of this node than the node itself.
     pub fn may_enter(&self, own: u64, place: usize, count: usize, now: u64) -> bool {
         let start = &self.start;
         let is_late = now >= start.at.saturating_add(LATE_MS) && !start.waits_for_all;
         start.told_own <= own && start.is_met(own) && (is_late || start.has_heard_all(place, count))
     }
 
-    /// The run of its journal, which is closed then.
+    /// Takes the run of the journal, which is closed after that.
     pub fn take_run(&mut self) -> Option<R> {
         self.run.take()
     }
 
-    /// The next run is on.
+    /// Goes on with the next run.
     pub fn put_run(&mut self, run: R) {
         self.run = Some(run);
     }
 
-    /// A run is on over a journal that was opened again, and nothing is stored until a moment.
+    /// Goes on with a run over a journal that was opened again. Nothing is stored until the given
+    /// moment.
     pub fn reopen(&mut self, run: R, until: u64) {
         self.state.hold_until(at(until));
         self.put_run(run);
     }
 
-    /// Whether a call that enters something is held back.
+    /// Whether a call that stores something is held back.
     fn is_held(&self, now: u64) -> bool {
         !self.state.is_open() || self.state.is_spared(at(now))
     }
 
-    /// Makes a call. No reply comes where it is held back, or the journal is closed.
+    /// Makes a call. Returns no reply if the call is held back or the journal is closed.
     pub fn make(
         &mut self,
         caller: usize,
@@ -245,7 +248,7 @@ impl<R: Runs> Life<R> {
         self.state.note_counted();
     }
 
-    /// Notes what a call leaves for the threads to go on with.
+    /// Hands the effects of a call to the other threads.
     pub fn note(&mut self, asked: &Asked, reply: &Reply, now: u64) {
         let noted = noted_by(asked.completes, &asked.freed, &asked.heard, reply);
         if is_any(&noted) {
@@ -256,7 +259,7 @@ impl<R: Runs> Life<R> {
         }
     }
 
-    /// How many facts of a node it has heard of, and not taken yet.
+    /// Returns how many facts of a node have been received and not taken yet.
     pub fn heard_of(&self, other: NodeId) -> u64 {
         let mut most = 0;
         for one in self.awaited.iter() {
@@ -269,19 +272,19 @@ impl<R: Runs> Life<R> {
     }
 }
 
-/// What the thread that enters does.
+/// The work of the writer thread.
 impl<R: Runs> Life<R> {
-    /// What it took and hasn't done.
+    /// Takes the task that it is about to do.
     pub fn take_task(&mut self) -> Option<Task> {
         self.task.take()
     }
 
-    /// It took this, and does it at the next step.
+    /// Stores the task that it does at the next step.
     pub fn put_task(&mut self, task: Task) {
         self.task = Some(task);
     }
 
-    /// What it does next, if its journal is open.
+    /// Returns what it does next, if the journal is open.
     pub fn next_task(&mut self, now: u64) -> Task {
         let now = at(now);
         let _opens = self.state.open_if_due(now);
@@ -289,7 +292,7 @@ impl<R: Runs> Life<R> {
         self.state.next_task(now)
     }
 
-    /// What was heard is entered, or waits once more.
+    /// Ends a letter: the answer is stored, or the letter waits again.
     pub fn end_letter(&mut self, letter: Letter, who: &DueCall, is_entered: bool, now: u64) {
         if !is_entered {
             self.state.put_letter(letter);
@@ -299,7 +302,7 @@ impl<R: Runs> Life<R> {
         self.listed.retain(|listed| !is_same(listed, who));
     }
 
-    /// What another node told is here, or won't be.
+    /// Ends a telling of another node: it was taken here, or won't be.
     pub fn end_telling(&mut self, from: NodeId, front: &Front, is_taken: bool) {
         if !self.awaited.is_empty() {
             let _told = self.awaited.remove(0);
@@ -315,32 +318,32 @@ impl<R: Runs> Life<R> {
         self.state.turn(survey.more());
     }
 
-    /// A root was to be purged by itself, and this was replied.
+    /// Ends the purge of a root that is purged on its own, and that had this reply.
     pub fn end_sweep(&mut self, root: LraId, reply: &Reply, now: u64) {
         self.state.purged(at(now), root, purged_by(reply));
     }
 
-    /// How many facts there are is to be asked for once more.
+    /// Makes the number of the node's facts be asked for again.
     pub fn want_count(&mut self) {
         self.state.want_count();
     }
 
-    /// Whom to call is asked for now.
+    /// Records that a list of duties is asked for now.
     pub fn begin_list(&mut self, now: u64) {
         self.state.begin_list(at(now));
     }
 
-    /// Whom to call is to be asked for once more.
+    /// Makes a new list of duties be asked for.
     pub fn stir(&mut self) {
         self.state.stir(false);
     }
 
-    /// An LRA was cancelled for its deadline, and another may be overdue.
+    /// Records that an LRA was cancelled for its deadline, so another may be overdue.
     pub fn tick(&mut self) {
         self.state.tick();
     }
 
-    /// Whom to call, as the newest list says, which names these.
+    /// Puts the newest list of duties, which has these calls.
     pub fn put_duties(&mut self, duties: Duties, listed: Vec<DueCall>, now: u64) {
         self.listed = listed;
         self.state.put_duties(duties, at(now));
@@ -349,7 +352,8 @@ impl<R: Runs> Life<R> {
 
 /// What operators want.
 impl<R: Runs> Life<R> {
-    /// Operators want a call; or give up what they wanted, and it isn't made any more, unless it is being made.
+    /// Records that operators want a call. If they already want one and their time is over, they
+    /// withdraw it, and it isn't made any more, unless it is already being made.
     pub fn want(&mut self, call: Call, wanted: Wanted, now: u64) {
         match &self.errand {
             None => {
@@ -367,7 +371,7 @@ impl<R: Runs> Life<R> {
         }
     }
 
-    /// The call that they want, which is being made now.
+    /// Takes the call that operators want, which is made now.
     pub fn take_errand(&mut self) -> Option<Call> {
         match self.errand.take() {
             Some(errand) => Some(errand.call),
@@ -376,9 +380,9 @@ impl<R: Runs> Life<R> {
     }
 }
 
-/// How it pulls, and is pulled from.
+/// Pulls in both directions.
 impl<R: Runs> Life<R> {
-    /// The front that it counts on, once it knows what it has.
+    /// Returns the front from which the node pulls, once the node knows what it has.
     pub fn counted(&self) -> Option<Front> {
         if self.state.is_counted() {
             Some(self.state.front())
@@ -387,7 +391,8 @@ impl<R: Runs> Life<R> {
         }
     }
 
-    /// Whether it owes a node that asks facts of that node's own, which it has heard of and not stored.
+    /// Whether a node that asks is owed facts of its own: it sent them here, and they aren't stored
+    /// yet.
     pub fn is_owed(&self, from: NodeId, asks: &Front) -> bool {
         self.state.is_owed(from, asks)
     }
@@ -410,12 +415,12 @@ impl<R: Runs> Life<R> {
         false
     }
 
-    /// Whether something that a node told is neither taken nor given up.
+    /// Whether something that a node sent is neither taken nor given up.
     pub fn waits_for(&self, from: NodeId) -> bool {
         self.is_awaited(from) || self.is_left(from)
     }
 
-    /// Hears by a pull how many facts of this node another claims to have.
+    /// Learns from another node's pull how many facts of this node it claims to have.
     pub fn hear_claim(&mut self, me: NodeId, other: NodeId, told: &Front) -> Result<(), Halt> {
         let (theirs, ours) = (told.count(me), self.state.front().count(me));
         if theirs > ours && theirs < LAST_NUMBER {
@@ -425,7 +430,7 @@ impl<R: Runs> Life<R> {
         Ok(())
     }
 
-    /// Hears what the node at a place told, where it was said that this node has a front.
+    /// Receives what the node at a place sent when it was asked from a front.
     pub fn hear_telling(
         &mut self,
         me: NodeId,
@@ -444,7 +449,7 @@ impl<R: Runs> Life<R> {
         Ok(())
     }
 
-    /// Hands what others told to the mailbox, as far as there is room.
+    /// Hands what others sent to the mailbox, as far as there is room.
     pub fn put_tellings(&mut self) -> Result<(), Halt> {
         for _telling in 0..self.tellings.len() {
             if self.tellings.is_empty() || self.state.has_telling() {
@@ -467,14 +472,14 @@ impl<R: Runs> Life<R> {
     }
 }
 
-/// Whom it calls.
+/// The calls of participants.
 impl<R: Runs> Life<R> {
-    /// How many calls are on their way.
+    /// Returns how many calls are under way.
     pub fn calls(&self) -> usize {
         self.calls.len()
     }
 
-    /// How many calls to a host are on their way.
+    /// Returns how many calls to a host are under way.
     pub fn calls_to(&self, host: usize) -> usize {
         let mut count = 0usize;
         for call in self.calls.iter() {
@@ -490,7 +495,7 @@ impl<R: Runs> Life<R> {
         is_among(&self.listed, who)
     }
 
-    /// Who is called next, if a thread is free.
+    /// Takes the participant that is called next, if a thread is free.
     pub fn take_due(&mut self) -> Option<Due> {
         if self.calls.len() >= CALLERS || !self.state.may_call() {
             return None;
@@ -498,13 +503,13 @@ impl<R: Runs> Life<R> {
         self.state.take_due()
     }
 
-    /// A call begins.
+    /// Begins a call.
     pub fn begin_call(&mut self, due: Due, began: u64) -> Result<(), Halt> {
         self.calls.push(InFlight { due, began })?;
         Ok(())
     }
 
-    /// The host of the call at a place, and when it began.
+    /// Returns the host of the call at a place, and when the call began.
     pub fn call_at(&self, place: usize) -> Option<(usize, u64)> {
         match self.calls.get(place) {
             Some(call) => Some((host_of(call.due.duty()), call.began)),
@@ -512,7 +517,7 @@ impl<R: Runs> Life<R> {
         }
     }
 
-    /// The call at a place ends.
+    /// Ends the call at a place.
     pub fn end_call(&mut self, place: usize) -> Option<Due> {
         if place >= self.calls.len() {
             return None;
@@ -521,7 +526,7 @@ impl<R: Runs> Life<R> {
         Some(due)
     }
 
-    /// Hears what came of a call that took so many milliseconds.
+    /// Records the result of a call that took this many milliseconds.
     pub fn hear(&mut self, time: u64, came: Result<Letter, Unheard>, now: u64) {
         let _plight = self.state.hear(at(time), came, at(now));
     }

@@ -1,4 +1,4 @@
-// A node: what outlives its lives, and what the simulator knows of it.
+// A node: what outlives its lives, and what the simulator knows about it.
 
 use crate::glue::{Asked, body_of, cancel};
 use crate::life::Life;
@@ -11,28 +11,28 @@ use lra_mailbox::Keep;
 use lra_run::{Opening, Runs};
 use std::alloc::Global;
 
-/// A node that is played.
+/// A simulated node.
 #[derive(Drop)]
 pub struct Node<R: Runs> {
     pub(crate) alloc: Global,
     pub me: NodeId,
-    /// How many nodes there are.
+    /// The number of nodes.
     pub(crate) nodes: u8,
     keep: Keep,
-    /// By how much its clock goes before the others', in milliseconds.
+    /// How far the node's clock is ahead of the others', in milliseconds.
     pub skew: u64,
-    /// What is there of it while it runs.
+    /// The node's state while it runs.
     pub life: Option<Life<R>>,
-    /// What its files held at each stop.
+    /// The contents of its files at each stop.
     copies: Copies,
     /// The facts that it has, and what they say.
     pub known: Known,
-    /// Whether it has started over an older copy, and isn't open yet.
+    /// Whether it has started over an older copy and doesn't accept commands yet.
     pub is_recovering: bool,
 }
 
 impl<R: Runs> Node<R> {
-    /// A new node, which doesn't run, with this number and of so many.
+    /// Makes the node with this number in a group of `nodes` nodes. It doesn't run yet.
     pub fn new(
         alloc: Global,
         number: u8,
@@ -60,7 +60,7 @@ impl<R: Runs> Node<R> {
         self.life.is_some()
     }
 
-    /// Whether it runs, and its journal is closed.
+    /// Whether the node runs and its journal is closed.
     pub fn is_shut(&self) -> bool {
         match &self.life {
             Some(life) => life.is_shut(),
@@ -68,7 +68,7 @@ impl<R: Runs> Node<R> {
         }
     }
 
-    /// Whether it runs, and may enter something of its own.
+    /// Whether the node runs and may store something of its own.
     pub fn is_open(&self) -> bool {
         match &self.life {
             Some(life) => life.is_open(),
@@ -76,12 +76,12 @@ impl<R: Runs> Node<R> {
         }
     }
 
-    /// The facts that it has.
+    /// Returns the facts that the node has.
     pub fn front(&self) -> Front {
         self.known.front()
     }
 
-    /// How many facts of another node it has heard of, and perhaps not taken yet.
+    /// Returns how many facts of another node this one has received, including those not taken yet.
     pub fn heard_of(&self, other: NodeId) -> u64 {
         let heard = match &self.life {
             Some(life) => life.heard_of(other),
@@ -91,12 +91,12 @@ impl<R: Runs> Node<R> {
         self.front().count(other).max(heard).max(doubted)
     }
 
-    /// The place of the newest copy of its disk.
+    /// Returns the place of the newest copy of the node's disk.
     pub fn newest(&self) -> usize {
         self.copies.newest()
     }
 
-    /// How many calls of it are on their way.
+    /// Returns how many calls of the node are under way.
     pub fn calls(&self) -> usize {
         match &self.life {
             Some(life) => life.calls(),
@@ -104,13 +104,13 @@ impl<R: Runs> Node<R> {
         }
     }
 
-    /// The moment by its own clock, in milliseconds since 1970.
+    /// Returns the time by the node's own clock, in milliseconds since 1970.
     pub fn unix(&self, now: u64) -> u64 {
         now.saturating_add(self.skew)
             .saturating_add(1_700_000_000_000)
     }
 
-    /// How long it keeps a root that shows this.
+    /// Returns how long the node keeps a root that shows this.
     pub fn time_of(&self, status: LraStatus) -> Option<u64> {
         match status {
             LraStatus::Closed | LraStatus::Cancelled => self.keep.ended,
@@ -119,7 +119,7 @@ impl<R: Runs> Node<R> {
         }
     }
 
-    /// Makes a call of one of its threads, and notes what that leaves.
+    /// Makes a call of one of the node's threads, and hands on its effects.
     pub fn make(
         &mut self,
         caller: usize,
@@ -141,7 +141,8 @@ impl<R: Runs> Node<R> {
         }
     }
 
-    /// The member number that a call would have given: of a join the facts say it.
+    /// Returns the member number that a call would have been given: for a join the facts determine
+    /// it.
     fn given_to(&self, asked: &Asked) -> u8 {
         let Some(Command::Join { id, .. }) = &asked.command else {
             return 0;
@@ -149,7 +150,7 @@ impl<R: Runs> Node<R> {
         u8::try_from(self.known.model().members(*id).saturating_add(1)).unwrap_or(u8::MAX)
     }
 
-    /// What a call was to store that was cut off.
+    /// Returns what a call that was cut off would have stored.
     pub fn doubt_of(&self, asked: Asked, now: u64) -> Doubt {
         if let Some(front) = asked.taken {
             return Doubt::Frame(front);
@@ -163,18 +164,18 @@ impl<R: Runs> Node<R> {
         }
     }
 
-    /// It has the facts of a front now, all of which it had or were entered by others.
+    /// Moves the node on to a front, all of whose facts it had or are in the history.
     pub fn grow(&mut self, history: &History, front: Front, now: u64) -> Result<(), Halt> {
         self.known.grow(history, front, now)
     }
 
-    /// It has one fact of its own more, which stands in the history.
+    /// Adds the next fact of the node's own, which is in the history.
     pub fn grow_by_one(&mut self, history: &History, now: u64) -> Result<(), Halt> {
         let front = raised(self.front(), self.me, self.known.own().saturating_add(1));
         self.known.grow(history, front, now)
     }
 
-    /// Notes whom a reply says to call, once that is whom the facts say.
+    /// Puts the duties of a reply, after checking that they are those that the facts demand.
     pub fn put_duties(&mut self, duties: Duties, now: u64) -> Result<(), Halt> {
         let listed = self.see_duties(&duties)?;
         if let Some(life) = self.life.as_mut() {
@@ -184,9 +185,9 @@ impl<R: Runs> Node<R> {
     }
 }
 
-/// How it starts and stops, and opens and closes its journal.
+/// Starting and stopping, and opening and closing the journal.
 impl<R: Runs> Node<R> {
-    /// Opens its journal over a copy of its disk, of which calls may fail.
+    /// Opens the journal over a copy of the node's disk, some of whose calls may fail.
     pub fn open(&self, copy: usize, fate: Fate, luck: &mut Luck) -> Result<Opening<R>, Halt> {
         match self.copies.get(copy) {
             Ok(image) => R::open(self.alloc, image, fate, luck, self.me, self.nodes),
@@ -194,24 +195,27 @@ impl<R: Runs> Node<R> {
         }
     }
 
-    /// Looks whether a book that was opened over a copy has the facts of that, and settles what was in doubt.
+    /// Checks that a book that was opened over a copy has the facts of that copy, and settles what
+    /// was in doubt.
     pub fn settle(&mut self, history: &mut History, copy: usize, has: Front) -> Result<(), Halt> {
         self.copies.settle(history, copy, has)
     }
 
-    /// What is left of a copy of its disk, a call of which failed before its journal was open.
+    /// Keeps what is left of a copy of the node's disk after one of its calls failed before the
+    /// journal was open.
     pub fn leave(&mut self, copy: usize, files: &Remains, loses_power: bool) -> Result<(), Halt> {
         self.copies.leave(copy, files, loses_power)
     }
 
-    /// Its life begins.
+    /// Begins the node's life.
     pub fn begin(&mut self, run: R, now: u64) {
         let (me, keep, nodes) = (self.me, self.keep, self.nodes);
         let waits_for_all = self.is_recovering;
         self.life = Some(Life::new(self.alloc, me, keep, nodes, run, now, waits_for_all));
     }
 
-    /// It has the facts of an older copy alone, and those beyond that copy are lost.
+    /// Leaves the node with exactly the facts of an older copy, and drops the copies beyond that
+    /// one.
     pub fn fall_back(
         &mut self,
         history: &History,
@@ -225,7 +229,7 @@ impl<R: Runs> Node<R> {
         Ok(())
     }
 
-    /// Its journal is open again, and nothing is stored until a moment.
+    /// Goes on over the journal, which is open again. Nothing is stored until the given moment.
     pub fn reopen(&mut self, run: R, until: u64) {
         if let Some(life) = self.life.as_mut() {
             life.reopen(run, until);
@@ -239,7 +243,7 @@ impl<R: Runs> Node<R> {
         }
     }
 
-    /// Keeps what its files hold, as the newest copy.
+    /// Keeps the contents of the node's files as the newest copy.
     pub fn keep_files(
         &mut self,
         files: &Remains,
@@ -250,7 +254,7 @@ impl<R: Runs> Node<R> {
         self.copies.keep(files, loses_power, front, doubt)
     }
 
-    /// Closes its journal, if that is open.
+    /// Closes the node's journal, if it is open.
     pub fn shut(&mut self, loses_power: bool, doubt: Doubt) -> Result<(), Halt> {
         let Some(run) = self.take_run() else {
             return Ok(());
@@ -261,7 +265,7 @@ impl<R: Runs> Node<R> {
         }
     }
 
-    /// Ends its run, if one is on, and opens the next, over the same files.
+    /// Ends the node's run, if one is on, and opens the next, over the same files.
     pub fn open_next(&mut self) -> Result<Option<Opening<R>>, Halt> {
         let Some(run) = self.take_run() else {
             return Ok(None);
@@ -272,7 +276,7 @@ impl<R: Runs> Node<R> {
         }
     }
 
-    /// The next run is on, whose book has what the last one had.
+    /// Goes on with the next run, after checking that its book has what the last one had.
     pub fn go_on_with(&mut self, run: R) -> Result<(), Halt> {
         let (had, has) = (self.front(), run.front());
         if let Some(life) = self.life.as_mut() {

@@ -1,4 +1,5 @@
-// What is looked at after each step: whether what a node says and does is what its facts and the definitions say.
+// The checks after each step: whether what a node says and does agrees with its facts and the
+// definitions.
 
 use crate::due::{are_same, named_on};
 use crate::glue::{Asked, purged_root};
@@ -14,11 +15,11 @@ use lra_replica::{Page, Row};
 use lra_run::Runs;
 use std::alloc::Global;
 
-/// How many LRAs a page lists at most.
+/// The most LRAs that a page lists.
 const ROWS: usize = 64;
 
-/// Whether a refusal of a command is what the facts of a node say, where the LRA that it names shows this, and is one
-/// whose begin the node has.
+/// Whether a refusal of a command agrees with the facts of a node. `status` is what the LRA that
+/// the command names shows, and `is_covered` says whether the node has its begin.
 fn is_refused_so(refusal: Refusal, status: Option<LraStatus>, is_covered: bool) -> bool {
     match refusal {
         Refusal::NotActive(shown) | Refusal::NotDue(shown) | Refusal::NotEnded(shown) => status
@@ -29,7 +30,7 @@ fn is_refused_so(refusal: Refusal, status: Option<LraStatus>, is_covered: bool) 
     }
 }
 
-/// How many LRAs of its own a node shows.
+/// Returns how many LRAs of its own a node shows.
 fn held_at_home(me: NodeId, shown: &[Shown]) -> usize {
     let mut count = 0usize;
     for one in shown {
@@ -40,7 +41,7 @@ fn held_at_home(me: NodeId, shown: &[Shown]) -> usize {
     count
 }
 
-/// Whether an LRA has the number of the fact that a node entered last, is shown, and had room.
+/// Whether an LRA has the number of the fact that a node stored last, is shown, and had room.
 fn is_begun_so(me: NodeId, known: &Known, id: LraId) -> bool {
     if id.num() != known.own() || known.status_of(id).is_none() {
         return false;
@@ -48,7 +49,7 @@ fn is_begun_so(me: NodeId, known: &Known, id: LraId) -> bool {
     held_at_home(me, known.shown()) <= MAX_HELD
 }
 
-/// Whether a reply to a command on this LRA is what the facts of a node say.
+/// Whether a reply to a command on this LRA agrees with the facts of a node.
 fn is_replied_so(me: NodeId, known: &Known, named: Option<LraId>, reply: &CommandReply) -> bool {
     let (status, is_covered) = match named {
         Some(id) => (known.status_of(id), known.front().covers(id)),
@@ -64,7 +65,7 @@ fn is_replied_so(me: NodeId, known: &Known, named: Option<LraId>, reply: &Comman
     }
 }
 
-/// Looks whether the rows of a page are the first that a node shows.
+/// Checks that the rows of a page are the first that a node shows.
 fn see_rows(alloc: Global, me: NodeId, rows: &[Row], all: &[Shown]) -> Result<(), Halt> {
     for (row, shown) in rows.iter().zip(all.iter()) {
         if row.id != shown.id || row.status != shown.status {
@@ -78,7 +79,7 @@ fn see_rows(alloc: Global, me: NodeId, rows: &[Row], all: &[Shown]) -> Result<()
     Ok(())
 }
 
-/// Looks whether a page is the first that a node shows.
+/// Checks that a page is the first that a node shows.
 fn see_page(alloc: Global, me: NodeId, page: &Page, all: &[Shown]) -> Result<(), Halt> {
     let count = all.len();
     see_rows(alloc, me, page.rows(), all)?;
@@ -135,7 +136,7 @@ fn found(alloc: Global, id: LraId, what: &str) -> Result<Halt, Halt> {
 }
 
 impl<R: Runs> Node<R> {
-    /// An LRA that is cancelled for its deadline is overdue.
+    /// Checks that an LRA that is cancelled for its deadline is overdue.
     pub fn see_expiry(&self, reply: &Reply, now: u64) -> Result<(), Halt> {
         let Reply::Expired(id) = reply else {
             return Ok(());
@@ -146,7 +147,7 @@ impl<R: Runs> Node<R> {
         Ok(())
     }
 
-    /// Nothing of it is overdue.
+    /// Checks that no LRA of this node is overdue.
     pub fn see_quiet(&self, now: u64) -> Result<(), Halt> {
         let first = self.known.model().first_overdue(self.me, self.unix(now));
         if first.is_some() {
@@ -155,7 +156,8 @@ impl<R: Runs> Node<R> {
         Ok(())
     }
 
-    /// Checks that an LRA that goes by itself showed this for as long as that is kept.
+    /// Checks that an LRA that is purged on its own showed this status for as long as that status
+    /// is kept.
     fn see_kept(&self, id: LraId, status: LraStatus, since: u64, now: u64) -> Result<(), Halt> {
         let is_due = match self.time_of(status) {
             Some(time) => now.saturating_sub(since) >= time,
@@ -167,7 +169,8 @@ impl<R: Runs> Node<R> {
         Ok(())
     }
 
-    /// What was the first in the tree of a root to show a failure, if any shows one.
+    /// Returns the LRA in the tree of a root that was the first to show a failure, if any shows
+    /// one.
     fn first_failure(&self, root: LraId) -> Result<Option<Shown>, Halt> {
         let mut first: Option<Shown> = None;
         for id in &self.known.model().tree(root)? {
@@ -184,8 +187,8 @@ impl<R: Runs> Node<R> {
         Ok(first)
     }
 
-    /// Checks that a root that goes by itself showed the same for as long as that is kept. If something failed in its tree,
-    /// both have that time as what failed.
+    /// Checks that a root that is purged on its own showed the same status for as long as that
+    /// status is kept. If something failed in its tree, the time for what failed applies to both.
     fn see_swept(&self, root: LraId, began_at: u64, now: u64) -> Result<(), Halt> {
         let Some(shown) = self.known.shown_of(root) else {
             return Err(not_held(self.alloc, root)?);
@@ -200,8 +203,9 @@ impl<R: Runs> Node<R> {
         }
     }
 
-    /// Nobody is to be told of a root that is purged; and where its home purges it by itself, it showed the same for as
-    /// long as that is kept.
+    /// Checks that no participant is still to be notified of a root that is purged and, if its home
+    /// purges it on its own, that the root showed the same status for as long as that status is
+    /// kept.
     pub fn see_purge(&self, asked: &Asked, reply: &Reply, now: u64) -> Result<(), Halt> {
         let Some(root) = purged_root(asked, reply) else {
             return Ok(());
@@ -215,7 +219,8 @@ impl<R: Runs> Node<R> {
         }
     }
 
-    /// Nothing is entered before the others were heard, or for a second none that has more facts of this node.
+    /// Checks that nothing is stored before the others have been heard from or, after a second,
+    /// while one of them has more facts of this node.
     pub fn see_opening(&self, place: usize, now: u64) -> Result<(), Halt> {
         let Some(life) = &self.life else {
             return Ok(());
@@ -229,7 +234,8 @@ impl<R: Runs> Node<R> {
         Ok(())
     }
 
-    /// A command on an LRA is answered by what its facts say, with those that it entered.
+    /// Checks that a command on an LRA is answered as its facts demand, including those that the
+    /// command stored.
     pub fn see_reply(&self, named: Option<LraId>, reply: &Reply) -> Result<(), Halt> {
         let Reply::Command(reply) = reply else {
             return Ok(());
@@ -240,7 +246,7 @@ impl<R: Runs> Node<R> {
         Err(not_so_replied(self.alloc, reply)?)
     }
 
-    /// The first page, if one comes, is what its facts say.
+    /// Checks that the first page, if there is one, agrees with the facts.
     pub fn see_listed(&self, reply: &Option<Reply>) -> Result<(), Halt> {
         match reply {
             Some(Reply::Listed(page)) => see_page(self.alloc, self.me, page, self.known.shown()),
@@ -255,7 +261,7 @@ impl<R: Runs> Node<R> {
         self.known.is_record(id, &holding.record)
     }
 
-    /// The record of an LRA, if one comes, is what its facts say.
+    /// Checks that the record of an LRA, if there is one, agrees with its facts.
     pub fn see_held(&self, id: LraId, reply: &Option<Reply>) -> Result<(), Halt> {
         let is_so = match reply {
             None => true,
@@ -268,7 +274,7 @@ impl<R: Runs> Node<R> {
         }
     }
 
-    /// It tells of all that it has.
+    /// Checks that the node sends all that it has.
     pub fn see_told(&self, delta: &Delta) -> Result<(), Halt> {
         let has = self.front();
         if delta.front() != has {
@@ -277,7 +283,8 @@ impl<R: Runs> Node<R> {
         Ok(())
     }
 
-    /// Who is due is who its facts say. It answers whom the list names.
+    /// Checks that the duties are those that the node's facts demand. Returns the calls on the
+    /// list.
     pub fn see_duties(&self, duties: &Duties) -> Result<Vec<DueCall>, Halt> {
         let (wanted, listed) = (self.known.dues()?, named_on(self.alloc, duties)?);
         if !are_same(&listed, &wanted) {
@@ -286,7 +293,7 @@ impl<R: Runs> Node<R> {
         Ok(listed)
     }
 
-    /// A run's book has what the last one had.
+    /// Checks that the book of a run has what that of the last run had.
     pub fn see_next_run(&self, had: Front, has: Front) -> Result<(), Halt> {
         if had != has {
             return Err(not_the_next(self.alloc, had, has)?);
