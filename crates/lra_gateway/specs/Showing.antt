@@ -1,9 +1,10 @@
--- What an LRA shows, as services ask about it.
+-- What an LRA shows, in the terms in which services ask.
 use Rattle.std.specs.Prelude.{◌||◌, Bool, true, false}
 use Rattle.lra_id.specs.declared.status.LraStatus.{LraStatus}
 use Rattle.lra_id.specs.declared.status.LraStatus.TheVariants.{Active, Cancelled, Cancelling, Closed, Closing, FailedToCancel, FailedToClose}
 
--- whether it is on its way to its end; whether it failed there; and whether the standard has it recovered: either
+-- whether an LRA is on its way to its end; whether it failed there; and whether the standard calls
+-- it recovering, which is either of these
 abbrev pub is_to_end : LraStatus → Bool
 is_to_end Closing = true
 is_to_end Cancelling = true
@@ -17,7 +18,7 @@ is_failed _ = false
 abbrev pub is_recovering : LraStatus → Bool
 is_recovering status = is_to_end status || is_failed status
 
--- whether it goes the way of a close; and that of a cancel
+-- whether an LRA goes the way of a close; and that of a cancel
 abbrev pub is_closed : LraStatus → Bool
 is_closed Closing = true
 is_closed Closed = true
@@ -30,7 +31,7 @@ is_cancelled Cancelled = true
 is_cancelled FailedToCancel = true
 is_cancelled _ = false
 
--- whether it goes the way that a close asks for, or a cancel
+-- whether an LRA goes the way that a close, or a cancel, asks for
 abbrev pub goes_so : (closes : Bool) → LraStatus → Bool
 goes_so true status = is_closed status
 goes_so false status = is_cancelled status

@@ -1,4 +1,4 @@
-// Calls of nodes, and of the gateways beside them.
+// Calls of nodes, and of the gateways beside other nodes.
 
 use crate::agent::{Agent, Host, moment};
 use crate::exchange::{Fail, call, connect, field, length_field, request_of};
@@ -12,16 +12,16 @@ use std::alloc::{AllocError, Global};
 use std::time::Duration;
 use std::{str, thread};
 
-/// How long a node may take to be reached, and to answer, in milliseconds: a service waits for ten
-/// seconds.
+/// How long reaching a node may take, and how long its answer may take, in milliseconds. A service
+/// waits for ten seconds.
 const REACH_MS: u64 = 1_500;
 
 const ANSWER_MS: u64 = 6_000;
 
-/// How long another gateway may take, which may ask its node again.
+/// How long another gateway may take, which may repeat its call of the node.
 const HANDED_MS: u64 = 9_500;
 
-/// How long to wait before a call is made again, in milliseconds.
+/// How long to wait before a call is repeated, in milliseconds.
 const PAUSE_MS: u64 = 100;
 
 /// A node's answer.
@@ -32,7 +32,7 @@ pub struct Answer {
 }
 
 impl Answer {
-    /// The text of a member of its body; nothing where there is none.
+    /// Returns the text of a member of the body, empty if there is none.
     pub fn text(&self, name: &str) -> &str {
         match &self.body {
             Some(value) => value.get(name).and_then(Value::as_str).unwrap_or(""),
@@ -40,7 +40,7 @@ impl Answer {
         }
     }
 
-    /// The list of a member of its body.
+    /// Returns the list of a member of the body.
     pub fn list(&self, name: &str) -> Option<&Vec<Value>> {
         match &self.body {
             Some(value) => value.get(name).and_then(Value::as_array),
@@ -48,29 +48,29 @@ impl Answer {
         }
     }
 
-    /// The refusal that it tells.
+    /// Returns the refusal that the answer names.
     pub fn refused(&self) -> &str {
         self.text("refused")
     }
 
-    /// Whether the node did nothing, and can be asked again.
+    /// Whether the node did nothing and can be asked again.
     pub fn did_nothing(&self) -> bool {
         let refused = self.refused();
         refused.starts_with("E19") || refused.starts_with("E20") || refused.starts_with("E21")
     }
 }
 
-/// What is asked of a node.
+/// A question to a node.
 #[derive(Drop)]
 pub struct Question<'a> {
     pub method: Method,
     pub path: &'a str,
     pub body: &'a str,
-    /// Whether it may be asked again.
+    /// When it may be repeated.
     pub repeat: Repeat,
 }
 
-/// A question that changes nothing.
+/// Makes a question that changes nothing.
 pub fn look_at(path: &str) -> Question {
     Question {
         method: Method::GET,
@@ -80,7 +80,7 @@ pub fn look_at(path: &str) -> Question {
     }
 }
 
-/// A host and a port, as a request names them.
+/// Returns a host and a port as a request names them.
 fn host_text(alloc: Global, host: &str, port: u16) -> Result<String, AllocError> {
     if host.contains(':') {
         format!(in alloc; "[{host}]:{port}")
@@ -104,7 +104,7 @@ fn request_by(
     request_of(alloc, method, host.as_str(), path, fields, body)
 }
 
-/// The value that a body is, if it is one.
+/// Parses a body as a JSON value, if it isn't empty.
 fn value_of(alloc: Global, body: &[u8]) -> Result<Option<Value>, Fail> {
     let Ok(text) = str::from_utf8(body) else {
         return Err(Fail::Unheard);
@@ -119,7 +119,7 @@ fn value_of(alloc: Global, body: &[u8]) -> Result<Option<Value>, Fail> {
     }
 }
 
-/// What a response says.
+/// Returns the answer in a response.
 fn answer_of(alloc: Global, response: &Response) -> Result<Answer, Fail> {
     Ok(Answer {
         code: response.status.as_u16(),
@@ -127,7 +127,7 @@ fn answer_of(alloc: Global, response: &Response) -> Result<Answer, Fail> {
     })
 }
 
-/// One call of a port, whose answer may take so many milliseconds.
+/// Calls a port once. The answer may take `ms` milliseconds.
 fn call_once<R: Host>(
     agent: &Agent<R>,
     host: &str,
@@ -141,7 +141,7 @@ fn call_once<R: Host>(
     }
 }
 
-/// One question to a port.
+/// Asks one question at a port.
 fn ask_once<R: Host>(
     agent: &Agent<R>,
     host: &str,
@@ -152,7 +152,7 @@ fn ask_once<R: Host>(
     answer_of(agent.alloc, &response)
 }
 
-/// What became of a call without an answer.
+/// Returns the outcome of a call without an answer.
 fn came_to(fail: Fail) -> Came {
     match fail {
         Fail::Unsent => Came::Unsent,
@@ -161,7 +161,7 @@ fn came_to(fail: Fail) -> Came {
     }
 }
 
-/// What became of a question.
+/// Returns the outcome of a question.
 fn came_of(answer: &Result<Answer, Fail>) -> Came {
     match answer {
         Ok(answer) if answer.did_nothing() => Came::DidNothing,
@@ -171,7 +171,7 @@ fn came_of(answer: &Result<Answer, Fail>) -> Came {
     }
 }
 
-/// Asks at a port, and again as far as that does no harm, for some time.
+/// Asks at a port, and for some time repeats the question as far as that does no harm.
 pub fn ask<R: Host>(
     agent: &Agent<R>,
     host: &str,
@@ -209,7 +209,8 @@ pub fn ask_node<R: Host>(
     ask(agent, door.peer.host.as_str(), door.peer.port, question)
 }
 
-/// Hands a request to the gateway beside a node, and again as far as that does no harm, for some time.
+/// Hands a request to the gateway beside a node, and for some time repeats that as far as it does
+/// no harm.
 pub fn hand_over<R: Host>(
     agent: &Agent<R>,
     peer: &Peer,

@@ -1,4 +1,4 @@
-// What an LRA shows, and ending it.
+// What an LRA shows, and how it is ended.
 
 use crate::agent::{Agent, Host, moment};
 use crate::asking::{Answer, Question, ask_node, ask_now, look_at};
@@ -12,16 +12,17 @@ use lra_narayana::{Repeat, text_of};
 use std::thread;
 use std::time::Duration;
 
-/// The first pause between two looks at an LRA that is to end, in milliseconds. It doubles.
+/// The first pause between two looks at an LRA that is to end, in milliseconds. Each further pause
+/// is twice as long.
 const FIRST_LOOK_MS: u64 = 5;
 
-/// The longest.
+/// The longest pause.
 const LAST_LOOK_MS: u64 = 50;
 
 /// How long to wait before all nodes are asked again, in milliseconds.
 const PAUSE_MS: u64 = 100;
 
-/// Whether a node told something of an LRA.
+/// Whether a node said something about an LRA.
 fn is_told(came: &Result<Answer, Fail>) -> bool {
     match came {
         Ok(answer) => answer.code != 503,
@@ -29,8 +30,8 @@ fn is_told(came: &Result<Answer, Fail>) -> bool {
     }
 }
 
-/// What an LRA shows, by its home or, where that tells nothing, by another node that this gateway
-/// asks itself.
+/// Returns what an LRA shows, by its home or, if the home doesn't say, by another node that this
+/// gateway asks itself.
 pub fn status_of<R: Host>(agent: &Agent<R>, lra: &Lra) -> Result<Answer, Fail> {
     let alloc = agent.alloc;
     let id = text_of(alloc, lra.id)?;
@@ -51,7 +52,7 @@ pub fn status_of<R: Host>(agent: &Agent<R>, lra: &Lra) -> Result<Answer, Fail> {
     last
 }
 
-/// What an LRA shows, looked at again for some time where no node tells anything.
+/// Returns what an LRA shows. As long as no node says anything, asks again for some time.
 pub fn status_in_time<R: Host>(agent: &Agent<R>, lra: &Lra) -> Result<Answer, Fail> {
     let until = moment(agent.rt, agent.gateway.again);
     for _ in agent.rt.forever() {
@@ -64,7 +65,7 @@ pub fn status_in_time<R: Host>(agent: &Agent<R>, lra: &Lra) -> Result<Answer, Fa
     unreachable!()
 }
 
-/// The status of an LRA: `GET /lra-coordinator/UID/status`.
+/// Returns the status of an LRA: `GET /lra-coordinator/UID/status`.
 pub fn status<R: Host>(agent: &Agent<R>, lra: &Lra) -> Result<Reply, Fail> {
     let answer = status_in_time(agent, lra)?;
     if answer.code != 200 {
@@ -73,7 +74,7 @@ pub fn status<R: Host>(agent: &Agent<R>, lra: &Lra) -> Result<Reply, Fail> {
     Ok(plain(agent.alloc, 200, answer.text("status"))?)
 }
 
-/// What an LRA shows after a close or cancel: by its answer, or by the refusal of a repeat.
+/// Returns what an LRA shows after a close or cancel, by the answer or by the refusal of a repeat.
 fn shown_by(answer: &Answer) -> Option<LraStatus> {
     let text = match answer.refused().strip_prefix("E6 NotActive ") {
         Some(status) => status,
@@ -82,7 +83,7 @@ fn shown_by(answer: &Answer) -> Option<LraStatus> {
     LraStatus::from_name(text).ok()
 }
 
-/// Waits for the end of an LRA, for some time.
+/// Waits for some time for the end of an LRA.
 fn wait_for_end<R: Host>(agent: &Agent<R>, lra: &Lra, first: LraStatus) -> LraStatus {
     let until = moment(agent.rt, agent.gateway.wait);
     let mut shown = first;
@@ -100,8 +101,8 @@ fn wait_for_end<R: Host>(agent: &Agent<R>, lra: &Lra, first: LraStatus) -> LraSt
     unreachable!()
 }
 
-/// Closes or cancels an LRA: `PUT /lra-coordinator/UID/close`, or `/cancel`. A repeat of what was done
-/// is as good as the first; the other way is 412.
+/// Closes or cancels an LRA: `PUT /lra-coordinator/UID/close`, or `/cancel`. A repeat is answered
+/// as the first call is; if the LRA was ended the other way, the answer is 412.
 pub fn end<R: Host>(agent: &Agent<R>, lra: &Lra, closes: bool) -> Result<Reply, Fail> {
     let alloc = agent.alloc;
     let id = text_of(alloc, lra.id)?;

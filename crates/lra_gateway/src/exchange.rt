@@ -1,4 +1,4 @@
-// One call over a connection of its own: of a node, of another gateway, or of a participant.
+// One call over a connection of its own, to a node, another gateway or a participant.
 
 use crate::agent::{Agent, Host};
 use http::Method;
@@ -22,7 +22,7 @@ pub enum Fail {
     NoMemory,
     /// Nothing was sent.
     Unsent,
-    /// Something may have been sent, and no whole answer came.
+    /// Something may have been sent, but no whole answer came.
     Unheard,
 }
 
@@ -46,7 +46,7 @@ impl<T: Drop> From<AllocFailed<T>> for Fail {
     }
 }
 
-/// A field of a message.
+/// Makes a field of a message.
 pub fn field(alloc: Global, name: &str, value: &str) -> Result<Field, AllocError> {
     Ok(Field {
         name: Bytes::new(Vec::from_slice(alloc, name.as_bytes())?),
@@ -54,13 +54,13 @@ pub fn field(alloc: Global, name: &str, value: &str) -> Result<Field, AllocError
     })
 }
 
-/// The field that states a body's length.
+/// Makes the field that states a body's length.
 pub fn length_field(alloc: Global, length: usize) -> Result<Field, AllocError> {
     let text = format!(in alloc; "{length}")?;
     field(alloc, "Content-Length", text.as_str())
 }
 
-/// A request with these fields and this body.
+/// Makes a request with these fields and this body.
 pub fn request_of(
     alloc: Global,
     method: Method,
@@ -78,14 +78,14 @@ pub fn request_of(
     })
 }
 
-/// A connection to a host by its name or its address.
+/// Connects to a host by its name or its address.
 pub fn connect<R: Host>(agent: &Agent<R>, host: &str, port: u16, ms: u64) -> io::Result<TcpStream> {
     let (rt, alloc, signal) = (agent.rt, agent.alloc, &agent.gateway.signal);
     let addresses = (host, port).to_socket_addrs(rt)?;
     connect_to_one(rt, alloc, signal, addresses, Duration::from_millis(ms))
 }
 
-/// A connection to the host of a URL.
+/// Connects to the host of a URL.
 pub fn connect_to<R: Host>(agent: &Agent<R>, url: &Url, ms: u64) -> io::Result<TcpStream> {
     let (rt, alloc, signal) = (agent.rt, agent.alloc, &agent.gateway.signal);
     let port = url.port_or_known_default().unwrap_or(80);
@@ -102,7 +102,7 @@ pub fn connect_to<R: Host>(agent: &Agent<R>, url: &Url, ms: u64) -> io::Result<T
     }
 }
 
-/// A reader and a writer over a connection, for one call that takes so long at most.
+/// Makes a reader and a writer over a connection, for one call that takes at most this long.
 fn buffered<'a, R: Host>(
     agent: &Agent<'a, R>,
     stream: TcpStream,
@@ -130,7 +130,7 @@ fn buffered<'a, R: Host>(
     Some((reader, writer))
 }
 
-/// Writes a request. It says whether all of it was taken.
+/// Writes a request. Returns whether all of it was taken.
 fn send<W: Sink>(alloc: Global, writer: &mut W, request: &CallRequest) -> bool {
     write_request(alloc, writer, request).is_ok()
 }
@@ -145,7 +145,7 @@ fn hear_any<S: Source>(alloc: Global, reader: &mut S) -> Result<lra_narayana::Re
     read_answer(alloc, reader)
 }
 
-/// One call of a node or a gateway over a connection: its answer within so many milliseconds.
+/// Calls a node or a gateway once over a connection. The answer may take `ms` milliseconds.
 pub fn call<R: Host>(
     agent: &Agent<R>,
     stream: TcpStream,
@@ -164,7 +164,7 @@ pub fn call<R: Host>(
     }
 }
 
-/// One call of a participant over a connection: its answer within so many milliseconds.
+/// Calls a participant once over a connection. The answer may take `ms` milliseconds.
 pub fn call_participant<R: Host>(
     agent: &Agent<R>,
     stream: TcpStream,

@@ -1,4 +1,4 @@
-// What nodes ask: a participant is called once, and its answer translated.
+// Serving nodes: a participant is called once, and its answer is translated.
 
 use crate::agent::{Agent, Host};
 use crate::exchange::{call_participant, connect_to, field, length_field, request_of};
@@ -12,16 +12,16 @@ use lra_narayana::{Answer, Broken, Kind, Opened, Request, Told, id_in, open, tol
 use std::alloc::AllocError;
 use url::{Position, Url};
 
-/// How long a participant may take to be reached, and to answer, in milliseconds: a node waits for ten
-/// seconds.
+/// How long reaching a participant may take, and how long its answer may take, in milliseconds. A
+/// node waits for ten seconds.
 const REACH_MS: u64 = 2_000;
 
 const CALL_MS: u64 = 7_000;
 
-/// The field that tells an LRA that has ended.
+/// The field that names an LRA that has ended.
 const ENDED: &str = "Long-Running-Action-Ended";
 
-/// The field that tells the LRA above.
+/// The field that names the parent LRA.
 const PARENT: &str = "Long-Running-Action-Parent";
 
 fn method_of(kind: Kind) -> Method {
@@ -32,7 +32,7 @@ fn method_of(kind: Kind) -> Method {
     }
 }
 
-/// What a node calls for.
+/// A node's call for a participant.
 #[derive(Drop)]
 struct Calling<'a> {
     group: &'a Group,
@@ -43,7 +43,7 @@ struct Calling<'a> {
 }
 
 impl<'a> Calling<'a> {
-    /// The body that goes on: the status of one that has ended.
+    /// Returns the body that is passed on: the status of an LRA that has ended.
     fn body(&self) -> &[u8] {
         if self.kind == Kind::After {
             &self.request.body
@@ -53,7 +53,7 @@ impl<'a> Calling<'a> {
     }
 }
 
-/// The fields that name the LRA, the one above, and the participant.
+/// Returns the fields that name the LRA, its parent and the participant.
 fn names_of<R: Host>(agent: &Agent<R>, calling: &Calling) -> Result<Vec<Field>, AllocError> {
     let (alloc, group, id) = (agent.alloc, calling.group, calling.id);
     let given = &calling.request.fields;
@@ -76,8 +76,8 @@ fn names_of<R: Host>(agent: &Agent<R>, calling: &Calling) -> Result<Vec<Field>, 
     Ok(fields)
 }
 
-/// The request to the participant. It has no `Connection: close`: asked with it, some services state
-/// no length for an empty answer.
+/// Makes the request to the participant. It has no `Connection: close`, because some services that
+/// are asked with it state no length for an empty answer.
 fn request_for<R: Host>(agent: &Agent<R>, calling: &Calling) -> Result<CallRequest, AllocError> {
     let (alloc, url, body) = (agent.alloc, &calling.url, calling.body());
     let method = method_of(calling.kind);
@@ -105,7 +105,7 @@ fn call_once<R: Host>(agent: &Agent<R>, calling: &Calling) -> Result<Answer, All
     }
 }
 
-/// Tells people of an answer that the node hears otherwise, or not at all.
+/// Logs an answer that the node receives in another form, or not at all.
 fn tell<R: Host>(agent: &Agent<R>, calling: &Calling, answer: Answer, told: Told) {
     let (name, link, code) = (calling.kind.name(), calling.url.as_str(), told.code);
     match answer {
@@ -135,7 +135,7 @@ fn forbidden() -> Told {
     }
 }
 
-/// The id of the LRA for which a node calls.
+/// Returns the id of the LRA for which a node calls.
 fn id_of<R: Host>(agent: &Agent<R>, request: &Request) -> Result<Option<LraId>, AllocError> {
     let fields = &request.fields;
     let name = if fields.lra.is_empty() {
@@ -146,7 +146,8 @@ fn id_of<R: Host>(agent: &Agent<R>, request: &Request) -> Result<Option<LraId>, 
     id_in(agent.alloc, name.as_bytes())
 }
 
-/// What a node calls for, if its link is one of this gateway, for this LRA and with this method.
+/// Returns what a node calls for, if its link is one of this gateway, for this LRA and with this
+/// method.
 fn calling_of<'a, R: Host>(
     agent: &Agent<R>,
     group: &'a Group,
@@ -176,7 +177,7 @@ fn calling_of<'a, R: Host>(
     }
 }
 
-/// What a node of a group is answered.
+/// Answers a node of a group.
 pub fn serve_node<R: Host>(
     agent: &Agent<R>,
     group: &Group,

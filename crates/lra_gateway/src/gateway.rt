@@ -1,4 +1,4 @@
-// What all threads of a gateway share. Nothing of it changes what is answered, but whose turn it is.
+// What all threads of a gateway share. None of it changes an answer, except whose turn it is.
 
 use crate::port::Port;
 use crate::words::{Asked, Door};
@@ -9,42 +9,42 @@ use std::alloc::{AllocError, Global};
 use std::net::SocketAddr;
 use std::sync::atomic::{AtomicU64, Ordering};
 
-/// The nodes that give the same ids out, and how they and the gateway reach each other.
+/// Nodes that give out the same ids, and how they and the gateway reach each other.
 #[derive(Drop)]
 pub struct Group {
-    /// 1 for the first.
+    /// 1 for the first group.
     pub number: u8,
     pub doors: Vec<Door>,
-    /// It seals the links that these nodes hold.
+    /// The key that seals the links that these nodes store.
     pub key: Key,
     pub via: Via,
-    /// Where it listens for these nodes.
+    /// The port at which the gateway listens for these nodes.
     pub port: Port,
     turn: AtomicU64,
 }
 
 impl Group {
-    /// Which node's turn it is to begin an LRA, by its place.
+    /// Returns the place of the node whose turn it is to begin an LRA.
     pub fn next_turn(&self) -> usize {
         self.turn.fetch_add(1, Ordering::SeqCst) as usize
     }
 }
 
-/// A gateway, as the words of its command line have it.
+/// A gateway, as the words of its command line describe it.
 #[derive(Drop)]
 pub struct Gateway {
-    /// Where it listens for services.
+    /// The port at which it listens for services.
     pub port: Port,
-    /// What ids begin with, before `/lra-coordinator/`.
+    /// The beginning of ids, before `/lra-coordinator/`.
     pub base: String,
-    /// The time limit of LRAs that are begun without one, in milliseconds, 0 for none.
+    /// The time limit of LRAs that are begun without one, in milliseconds; 0 for none.
     pub limit: u64,
     /// How long a close or cancel waits for the end, in milliseconds.
     pub wait: u64,
-    /// How long a call is made again, in milliseconds.
+    /// How long a call is repeated, in milliseconds.
     pub again: u64,
-    /// Hosts, with their ports where not all are meant, at which participants may be; any, if none
-    /// is named.
+    /// The hosts on which participants may be, each with a port unless all its ports are meant. If
+    /// no host is named, any is allowed.
     pub allow: Vec<String>,
     pub shorts: Vec<Short>,
     pub groups: Vec<Group>,
@@ -55,24 +55,24 @@ pub struct Gateway {
 }
 
 impl Gateway {
-    /// Which group's turn it is to begin an LRA, by its place.
+    /// Returns the place of the group whose turn it is to begin an LRA.
     pub fn next_turn(&self) -> usize {
         self.turn.fetch_add(1, Ordering::SeqCst) as usize
     }
 
-    /// Whether a complaint may be told in this second: one may.
+    /// Whether a complaint may be logged in this second: only one may.
     pub fn may_complain(&self, second: u64) -> bool {
         self.quiet
             .fetch_max(second.saturating_add(1), Ordering::SeqCst)
             <= second
     }
 
-    /// The group of a number, if there is one.
+    /// Returns the group with a number, if there is one.
     pub fn group(&self, number: u8) -> Option<&Group> {
         self.groups.get(usize::from(number).checked_sub(1)?)
     }
 
-    /// The port of a group's number, or that for services, which is 0.
+    /// Returns the port of the group with a number, or the port for services for 0.
     pub fn port_of(&self, number: u8) -> &Port {
         match self.group(number) {
             Some(group) => &group.port,
@@ -81,7 +81,8 @@ impl Gateway {
     }
 }
 
-/// The key of a group: that of the gateway for the first. A seal of one group is none of another.
+/// Returns the key of a group. The first group has the key of the gateway. A seal of one group
+/// isn't a seal of another.
 fn key_for(key: &Key, number: u8) -> Key {
     if number <= 1 {
         return *key;
@@ -94,7 +95,8 @@ fn key_for(key: &Key, number: u8) -> Key {
     }
 }
 
-/// Where it listens for the nodes of a group: one port further for each.
+/// Returns the address at which the gateway listens for the nodes of a group: one port further for
+/// each group.
 fn calls_for(calls: SocketAddr, number: u8) -> SocketAddr {
     let port = calls
         .port()
@@ -102,7 +104,7 @@ fn calls_for(calls: SocketAddr, number: u8) -> SocketAddr {
     SocketAddr::new(calls.ip(), port)
 }
 
-/// Where the nodes of a group reach it.
+/// Returns the address at which the nodes of a group reach the gateway.
 fn via_for(
     alloc: Global,
     via: &Option<Peer>,
@@ -125,7 +127,7 @@ fn via_for(
     })
 }
 
-/// The groups that the words ask for.
+/// Makes the groups that the words ask for.
 fn groups_of(
     alloc: Global,
     key: &Key,
@@ -150,7 +152,7 @@ fn groups_of(
     Ok(groups)
 }
 
-/// The gateway that the words ask for, with this key.
+/// Makes the gateway that the words ask for, with this key.
 pub fn gateway_of(alloc: Global, asked: Asked, key: &Key) -> Result<Gateway, AllocError> {
     let Asked {
         listen,

@@ -1,4 +1,4 @@
-// Requests of services, and those that are handed to the gateway beside another node.
+// Requests of services, and requests that are handed to the gateway beside another node.
 
 use crate::agent::{Agent, Host};
 use crate::asking::hand_over;
@@ -11,16 +11,18 @@ use lra_http::CallRequest;
 use lra_narayana::{Repeat, Request};
 use std::alloc::{AllocError, Global};
 
-/// What stands before the target of a request that was handed over, with the group's number behind it.
+/// The beginning of a target that was handed over. The group's number follows, and then the
+/// service's own target.
 const HANDED: &str = "/handed-over/";
 
-/// What a service asks.
+/// A service's request.
 #[derive(Clone, Copy)]
 pub struct Errand<'a> {
     pub request: &'a Request,
-    /// Its target, as the service wrote it.
+    /// The target, as the service wrote it.
     pub target: &'a str,
-    /// The group for which another gateway handed it over, if one did. Then it is handed to no third.
+    /// The group for which another gateway handed the request over, if one did. Such a request
+    /// isn't handed on again.
     pub handed_for: Option<u8>,
 }
 
@@ -29,7 +31,7 @@ impl<'a> Errand<'a> {
         self.request.method.as_str()
     }
 
-    /// What stands behind the question mark of its target.
+    /// Returns the part of the target behind the question mark.
     pub fn query(&self) -> &str {
         match self.target.split_once('?') {
             Some((_path, query)) => query,
@@ -37,7 +39,7 @@ impl<'a> Errand<'a> {
         }
     }
 
-    /// What stands before it.
+    /// Returns the part of the target before the question mark.
     pub fn path(&self) -> &str {
         match self.target.split_once('?') {
             Some((path, _query)) => path,
@@ -45,7 +47,8 @@ impl<'a> Errand<'a> {
         }
     }
 
-    /// Whether it asks for this group, where another gateway handed it over.
+    /// Whether the request may be for this group: it is if another gateway handed it over for this
+    /// group, or if no gateway handed it over.
     pub fn is_for(&self, group: &Group) -> bool {
         match self.handed_for {
             Some(number) => number == group.number,
@@ -54,7 +57,7 @@ impl<'a> Errand<'a> {
     }
 }
 
-/// The target of a request that was handed over, and the group for which it was.
+/// Returns the group for which a request was handed over, and its target.
 fn handed(target: &str) -> Option<(u8, &str)> {
     let rest = target.strip_prefix(HANDED)?;
     let place = rest.find('/')?;
@@ -63,7 +66,7 @@ fn handed(target: &str) -> Option<(u8, &str)> {
     Some((number, target))
 }
 
-/// What a request asks.
+/// Returns what a request asks for.
 pub fn errand_of(request: &Request) -> Errand {
     let target = request.target.as_str();
     match handed(target) {
@@ -80,7 +83,7 @@ pub fn errand_of(request: &Request) -> Errand {
     }
 }
 
-/// The method of this name, of those that services use.
+/// Returns the method of this name, if services use it.
 fn method_of(name: &str) -> Option<Method> {
     match name {
         "GET" => Some(Method::GET),
@@ -91,7 +94,7 @@ fn method_of(name: &str) -> Option<Method> {
     }
 }
 
-/// The request that hands one over.
+/// Makes the request that hands a service's request over.
 fn request_for(
     alloc: Global,
     group: &Group,
@@ -110,7 +113,7 @@ fn request_for(
     request_of(alloc, method, "gateway", target.as_str(), fields, body)
 }
 
-/// Hands what a service asks to the gateway beside a node of a group.
+/// Hands a service's request to the gateway beside a node of a group.
 pub fn hand<R: Host>(
     agent: &Agent<R>,
     group: &Group,

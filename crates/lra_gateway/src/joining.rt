@@ -14,11 +14,11 @@ use std::alloc::{AllocError, Global};
 use std::str;
 use url::{Position, Url};
 
-/// Why links aren't taken.
+/// Why links aren't accepted.
 #[derive(Drop)]
 enum Untaken {
     NoMemory,
-    /// What the service is told.
+    /// The text for the service.
     Told(String),
 }
 
@@ -50,7 +50,7 @@ fn is_allowed(alloc: Global, allow: &[String], link: &str) -> bool {
     false
 }
 
-/// What a service is told whose link isn't carried.
+/// Returns what a service is told if its link can't be carried.
 fn told_of(alloc: Global, link: &str, why: Uncarried) -> Untaken {
     let text = match why {
         Uncarried::NoMemory => return Untaken::NoMemory,
@@ -68,7 +68,7 @@ fn told_of(alloc: Global, link: &str, why: Uncarried) -> Untaken {
     }
 }
 
-/// A link, carried.
+/// Makes the carried link for a link.
 fn carried<R: Host>(agent: &Agent<R>, lra: &Lra, link: &Given) -> Result<Given, Untaken> {
     let (alloc, gateway, group) = (agent.alloc, agent.gateway, lra.group);
     let (kind, url) = (link.kind, link.url.as_str());
@@ -90,7 +90,7 @@ fn carried<R: Host>(agent: &Agent<R>, lra: &Lra, link: &Given) -> Result<Given, 
     }
 }
 
-/// The links of a text, carried.
+/// Makes the carried links for the links of a text.
 fn carry_all<R: Host>(agent: &Agent<R>, lra: &Lra, text: &str) -> Result<Vec<Given>, Untaken> {
     let alloc = agent.alloc;
     let Some(links) = links_of(alloc, text)? else {
@@ -111,8 +111,9 @@ fn joined<R: Host>(agent: &Agent<R>, lra: &Lra, member: u8) -> Result<Reply, Fai
     Ok(made(agent.alloc, 200, RECOVERY, url)?)
 }
 
-/// What a service is told that joined with these links before, if it did: the same as then, but too
-/// late as any other where the LRA isn't Active. Else its work might come behind its compensation.
+/// Returns what a service is told if it joined with these links before: the same as then, but if
+/// the LRA isn't Active any more, that it is too late, as any other service is told. Otherwise its
+/// work might come after its compensation.
 fn joined_before<R: Host>(
     agent: &Agent<R>,
     lra: &Lra,
@@ -130,7 +131,7 @@ fn joined_before<R: Host>(
     Ok(Some(joined(agent, lra, member)?))
 }
 
-/// The body of a join. A carried link has neither quotes nor backslashes.
+/// Makes the body of a join. A carried link has neither quotes nor backslashes.
 fn join_body(alloc: Global, links: &[Given]) -> Result<String, AllocError> {
     let mut body = String::from_str(alloc, "{")?;
     for link in links {
@@ -143,7 +144,7 @@ fn join_body(alloc: Global, links: &[Given]) -> Result<String, AllocError> {
     Ok(body)
 }
 
-/// What a service is told of a join.
+/// Returns what a service is told about a join.
 fn told_join<R: Host>(agent: &Agent<R>, lra: &Lra, answer: &Answer) -> Result<Reply, Fail> {
     if answer.code != 200 {
         return Ok(refusal(agent.alloc, answer)?);
@@ -154,8 +155,8 @@ fn told_join<R: Host>(agent: &Agent<R>, lra: &Lra, answer: &Answer) -> Result<Re
     }
 }
 
-/// Joins with links that are carried. It is looked first whether they joined before; so a join whose
-/// answer is lost isn't made again where it was made.
+/// Joins with carried links. Checks first whether a service joined with them before. So a join
+/// whose answer was lost isn't repeated if it was made.
 fn join_with<R: Host>(agent: &Agent<R>, lra: &Lra, links: &[Given]) -> Result<Reply, Fail> {
     let alloc = agent.alloc;
     let (body, id) = (join_body(alloc, links)?, text_of(alloc, lra.id)?);
@@ -180,7 +181,7 @@ fn join_with<R: Host>(agent: &Agent<R>, lra: &Lra, links: &[Given]) -> Result<Re
     unreachable!()
 }
 
-/// The text of the links with which a service joins: its `Link` field, or its body.
+/// Returns the text of the links with which a service joins: its `Link` field, or its body.
 fn links_text<'a>(errand: &'a Errand) -> &'a str {
     let link = errand.request.fields.link.as_str();
     if !link.is_empty() {
@@ -193,7 +194,7 @@ fn links_text<'a>(errand: &'a Errand) -> &'a str {
     }
 }
 
-/// Joins: `PUT /lra-coordinator/UID?TimeLimit=MS`, with a `Link` field or a body.
+/// Joins an LRA: `PUT /lra-coordinator/UID?TimeLimit=MS`, with a `Link` field or a body.
 pub fn join<R: Host>(agent: &Agent<R>, errand: &Errand, lra: &Lra) -> Result<Reply, Fail> {
     if time_in(said(errand.query(), "TimeLimit")) != Some(0) {
         agent.complain("a participant's own TimeLimit isn't kept");
@@ -208,7 +209,7 @@ pub fn join<R: Host>(agent: &Agent<R>, errand: &Errand, lra: &Lra) -> Result<Rep
     }
 }
 
-/// The number of the participant that leaves with a text: of its links, or its recovery URL.
+/// Returns the number of the participant that leaves. The text has its links, or its recovery URL.
 fn leaver<R: Host>(agent: &Agent<R>, lra: &Lra, text: &str) -> Result<Option<u8>, Fail> {
     if !text.contains('<') && text.contains("/recovery/") {
         return Ok(member_in(text));
@@ -223,7 +224,7 @@ fn leaver<R: Host>(agent: &Agent<R>, lra: &Lra, text: &str) -> Result<Option<u8>
     }
 }
 
-/// Leaves: `PUT /lra-coordinator/UID/remove`, with the text of the links in its body.
+/// Leaves an LRA: `PUT /lra-coordinator/UID/remove`, with the text of the links in its body.
 pub fn leave<R: Host>(agent: &Agent<R>, errand: &Errand, lra: &Lra) -> Result<Reply, Fail> {
     let alloc = agent.alloc;
     let text = str::from_utf8(&errand.request.body).unwrap_or("");

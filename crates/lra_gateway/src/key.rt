@@ -1,14 +1,14 @@
-// The key, as it is written.
+// The key in its written form.
 ghost use Rattle.std.specs.Prelude.{◌≡◌, ◌≤◌, ◌<◌, ℕ, List, MatchOption};
 ghost use Rattle.std.specs.Char.{digit_value};
 ghost use Rattle.lra_gateway.specs.Keys.{SpellByte, SpellKey};
 
 use lra_narayana::Key;
 
-/// How many hexadecimal digits a key has.
+/// The number of hexadecimal digits of a key.
 const DIGITS: usize = 64;
 
-/// The number that a hexadecimal digit stands for.
+/// Returns the number that a hexadecimal digit stands for.
 fn digit_of(byte: u8) -> Option<u8>
     ensures { MatchOption result (16 ≤ digit_value byte) (λ digit. (digit < 16) × (digit ≡ digit_value byte)) }
 {
@@ -20,7 +20,7 @@ fn digit_of(byte: u8) -> Option<u8>
     }
 }
 
-/// The byte that two hexadecimal digits spell.
+/// Returns the byte that two hexadecimal digits spell.
 fn byte_of(high: u8, low: u8) -> Option<u8>
     ensures { MatchOption result ((byte : ℕ) → SpellByte high low byte → ⊥) (λ byte. SpellByte high low byte) }
 {
@@ -33,7 +33,7 @@ fn byte_of(high: u8, low: u8) -> Option<u8>
     Some(high * 16 + low)
 }
 
-/// The key that 64 hexadecimal digits spell.
+/// Returns the key that 64 hexadecimal digits spell.
 pub fn key_of(text: &str) -> Option<Key>
     ensures { MatchOption result ((key : List ℕ) → SpellKey text.now key → ⊥) (λ key. SpellKey text.now key.bytes) }
 {

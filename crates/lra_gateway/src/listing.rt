@@ -1,4 +1,4 @@
-// Lists of LRAs, and what is recovered.
+// Lists of LRAs, and recovery.
 
 use crate::agent::{Agent, Host};
 use crate::asking::{Answer, Question, ask_node, ask_now, look_at};
@@ -19,7 +19,7 @@ use serde_json::Value;
 /// The most pages of a list: eight homes of 256 LRAs.
 const MAX_PAGES: usize = 64;
 
-/// Which LRAs a list has.
+/// The LRAs that a list has.
 #[derive(Clone, Copy, PartialEq, Eq, Debug)]
 pub enum Wanted {
     All,
@@ -37,7 +37,7 @@ fn is_wanted(wanted: Wanted, status: LraStatus) -> bool {
     }
 }
 
-/// Adds to an array what is known of an LRA.
+/// Adds what is known about an LRA to an array.
 fn push_data<R: Host>(
     agent: &Agent<R>,
     text: &mut String,
@@ -56,7 +56,7 @@ fn push_data<R: Host>(
     Ok(())
 }
 
-/// What is known of an LRA: `GET /lra-coordinator/UID`.
+/// Returns what is known about an LRA: `GET /lra-coordinator/UID`.
 pub fn info<R: Host>(agent: &Agent<R>, lra: &Lra) -> Result<Reply, Fail> {
     let answer = status_in_time(agent, lra)?;
     let Ok(status) = LraStatus::from_name(answer.text("status")) else {
@@ -67,12 +67,12 @@ pub fn info<R: Host>(agent: &Agent<R>, lra: &Lra) -> Result<Reply, Fail> {
     Ok(json(text))
 }
 
-/// The text of a member of a row; nothing where there is none.
+/// Returns the text of a member of a row, empty if there is none.
 fn text_of_row<'a>(row: &'a Value, name: &str) -> &'a str {
     row.get(name).and_then(Value::as_str).unwrap_or("")
 }
 
-/// Adds the rows of a page that are wanted.
+/// Adds the wanted rows of a page.
 fn push_page<R: Host>(
     agent: &Agent<R>,
     text: &mut String,
@@ -96,7 +96,7 @@ fn push_page<R: Host>(
     Ok(())
 }
 
-/// What a node lists, page by page, as an array.
+/// Returns what a node lists, page by page, as an array.
 fn listed<R: Host>(
     agent: &Agent<R>,
     group: &Group,
@@ -122,7 +122,7 @@ fn listed<R: Host>(
     Ok(text)
 }
 
-/// Adds what another array has to one that is open.
+/// Adds the contents of another array to an array that is still open.
 fn push_array(text: &mut String, other: &str) -> Result<(), Fail> {
     let inner = other
         .strip_prefix('[')
@@ -140,7 +140,7 @@ fn push_array(text: &mut String, other: &str) -> Result<(), Fail> {
     Ok(())
 }
 
-/// What the gateway beside a node lists, as an array.
+/// Returns what the gateway beside a node lists, as an array.
 fn listed_there<R: Host>(
     agent: &Agent<R>,
     group: &Group,
@@ -154,8 +154,8 @@ fn listed_there<R: Host>(
     Ok(reply.text)
 }
 
-/// The LRAs of a group, as an array: by the first node that tells them, or else by the gateway beside
-/// another.
+/// Returns the LRAs of a group as an array, from the first node that lists them, otherwise from the
+/// gateway beside another node.
 fn group_list<R: Host>(
     agent: &Agent<R>,
     group: &Group,
@@ -177,7 +177,7 @@ fn group_list<R: Host>(
     last
 }
 
-/// The LRAs of all groups that are wanted.
+/// Returns the wanted LRAs of all groups.
 pub fn list<R: Host>(agent: &Agent<R>, errand: &Errand, wanted: Wanted) -> Result<Reply, Fail> {
     let mut text = String::from_str(agent.alloc, "[")?;
     for group in agent.gateway.groups.iter() {
@@ -191,7 +191,7 @@ pub fn list<R: Host>(agent: &Agent<R>, errand: &Errand, wanted: Wanted) -> Resul
     Ok(json(text))
 }
 
-/// The LRAs, or those of a status: `GET /lra-coordinator?Status=STATUS`.
+/// Returns all LRAs, or those with a status: `GET /lra-coordinator?Status=STATUS`.
 pub fn list_by<R: Host>(agent: &Agent<R>, errand: &Errand) -> Result<Reply, Fail> {
     let wanted = said(errand.query(), "Status");
     if wanted.is_empty() {

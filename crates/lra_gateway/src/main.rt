@@ -1,4 +1,4 @@
-//! The program: a gateway without state between services that speak Narayana's coordinator interface
+//! The program: a stateless gateway between services that speak Narayana's coordinator interface
 //! and nodes.
 #![tactic(auto)]
 
@@ -44,10 +44,10 @@ use std::time::Clock;
 const USAGE: &str =
     "usage: LRA_GATEWAY_KEY=HEX lra_gateway listen=IP:PORT base=URL calls=PORT|calls=IP:PORT via=HOST:PORT [limit=MS] [wait=MS] [again=MS] [allow=HOST[:PORT],..] [short=NAME=HOST:PORT/PATH].. group=HOST:PORT[/PORT],.. .. | --version";
 
-/// The name of the key in the environment.
+/// The name of the environment variable that has the key.
 const KEY: &str = "LRA_GATEWAY_KEY";
 
-/// The gateway that the words ask for, with this key.
+/// Makes the gateway that the words ask for, with this key.
 fn asked_with(alloc: Global, words: &[String], key: &Key) -> Result<Gateway, Unasked> {
     let asked = asked_by(alloc, words)?;
     match gateway_of(alloc, asked, key) {
@@ -56,8 +56,8 @@ fn asked_with(alloc: Global, words: &[String], key: &Key) -> Result<Gateway, Una
     }
 }
 
-/// Runs a gateway until standard input ends, or says which build this is. Where the words ask for something
-/// else, or the environment has no key, it ends with 2, and the usage.
+/// Runs a gateway until standard input ends, or prints which build this is. If the words ask for
+/// something else, or the environment has no key, prints the usage and ends with status 2.
 fn main(rt: HostRuntime) -> ExitCode {
     let alloc = rt.alloc();
     let Ok(given) = env::args(&rt) else {
@@ -88,8 +88,8 @@ fn main(rt: HostRuntime) -> ExitCode {
     }
 }
 
-/// Runs the gateway, as `run_gateway` says. Its bounds name the sockets, which the borrow checker has to
-/// find where a host is handed over.
+/// Runs the gateway as `run_gateway` does. The bounds name the sockets, because the borrow checker
+/// has to find them where a host is handed over.
 fn serve<R, I>(rt: &R, alloc: Global, gateway: &Gateway, input: I) -> u8
 where
     R: Threads + Wait + Clock + Net<Listener = TcpListener, Stream = TcpStream> + Eprint + Sync,

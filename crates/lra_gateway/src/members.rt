@@ -1,4 +1,4 @@
-// The participants of an LRA, as the port for operators of its home tells them.
+// The participants of an LRA, as its home's port for operators lists them.
 
 use crate::agent::{Agent, Host};
 use crate::asking::{Answer, ask, look_at};
@@ -9,7 +9,7 @@ use lra_narayana::{Given, Kind, open, text_of};
 use serde_json::Value;
 use url::{Position, Url};
 
-/// All kinds of links, in the order in which they are told.
+/// All kinds of links, in the order in which they are listed.
 const KINDS: [Kind; 5] = [
     Kind::Compensate,
     Kind::Complete,
@@ -18,7 +18,7 @@ const KINDS: [Kind; 5] = [
     Kind::After,
 ];
 
-/// What an LRA's home tells operators of it; none where it knows no such LRA.
+/// Returns what an LRA's home tells operators about it, or `None` if it doesn't know the LRA.
 pub fn looked_up<R: Host>(agent: &Agent<R>, lra: &Lra) -> Result<Option<Answer>, Fail> {
     let Some(port) = lra.home.operate else {
         return Err(Fail::Unsent);
@@ -39,7 +39,7 @@ pub fn looked_up<R: Host>(agent: &Agent<R>, lra: &Lra) -> Result<Option<Answer>,
     }
 }
 
-/// The link of a kind with which a member joined, as an operator's port tells it.
+/// Returns the link of a kind with which a member joined, as the port for operators states it.
 fn link_of(member: &Value, kind: Kind) -> Option<&str> {
     member.get("links")?.get(kind.name())?.as_str()
 }
@@ -53,7 +53,8 @@ fn number_of(member: &Value) -> Option<u8> {
     u8::try_from(number).ok()
 }
 
-/// The link that tells a participant from others: to compensate, or else to hear of the end.
+/// Returns the link that distinguishes a participant from others: the link to compensate, otherwise
+/// the link for the notice of the end.
 fn own_link(links: &[Given]) -> Option<&Given> {
     match links.iter().find(|link| link.kind == Kind::Compensate) {
         Some(link) => Some(link),
@@ -61,7 +62,7 @@ fn own_link(links: &[Given]) -> Option<&Given> {
     }
 }
 
-/// The number of the participant that joined with these links.
+/// Returns the number of the participant that joined with these links.
 pub fn found_in(answer: &Answer, links: &[Given]) -> Option<u8> {
     let own = own_link(links)?;
     for member in answer.list("members")?.iter() {
@@ -72,7 +73,7 @@ pub fn found_in(answer: &Answer, links: &[Given]) -> Option<u8> {
     None
 }
 
-/// Adds a link with which a member joined, as it gave it.
+/// Adds a link with which a member joined, in the form in which the member gave it.
 fn push_link<R: Host>(
     agent: &Agent<R>,
     text: &mut String,
@@ -95,7 +96,7 @@ fn push_link<R: Host>(
     Ok(())
 }
 
-/// The links with which a member joined, as it gave them.
+/// Returns the links with which a member joined, in the form in which the member gave them.
 fn links_text<R: Host>(agent: &Agent<R>, lra: &Lra, member: &Value) -> Result<String, Fail> {
     let mut text = String::new(agent.alloc);
     for kind in KINDS {
@@ -106,7 +107,7 @@ fn links_text<R: Host>(agent: &Agent<R>, lra: &Lra, member: &Value) -> Result<St
     Ok(text)
 }
 
-/// The links of a participant: `GET /lra-coordinator/recovery/UID/NUMBER`.
+/// Returns the links of a participant: `GET /lra-coordinator/recovery/UID/NUMBER`.
 pub fn links_of_member<R: Host>(agent: &Agent<R>, lra: &Lra, number: u8) -> Result<Reply, Fail> {
     let alloc = agent.alloc;
     let looked = looked_up(agent, lra)?;

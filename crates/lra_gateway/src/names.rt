@@ -15,8 +15,8 @@ pub struct Lra<'a> {
     pub home: &'a Door,
 }
 
-/// A name without its query and its group, and the number of that: what stands behind the last dot,
-/// if that is a number, or else 1.
+/// Splits a name into the part without its query and its group, and the group's number. The number
+/// is what follows the last dot, if that is a number, and otherwise 1.
 fn parted(text: &str) -> (&str, u8) {
     let path = match text.split_once('?') {
         Some((path, _query)) => path,
@@ -31,14 +31,14 @@ fn parted(text: &str) -> (&str, u8) {
     (path, 1)
 }
 
-/// What a name says: the number of a group, and an id there.
+/// The contents of a name: the number of a group, and an id there.
 #[derive(Clone, Copy)]
 pub struct Name {
     pub number: u8,
     pub id: LraId,
 }
 
-/// What a text names: a URL of this gateway, or the last part of one.
+/// Returns what a text names: the text is a URL of this gateway, or the last part of one.
 pub fn name_in(alloc: Global, text: &str) -> Result<Option<Name>, AllocError> {
     let (front, number) = parted(text);
     match id_in(alloc, front.as_bytes())? {
@@ -47,7 +47,7 @@ pub fn name_in(alloc: Global, text: &str) -> Result<Option<Name>, AllocError> {
     }
 }
 
-/// The LRA of a name, if its group and its home are there.
+/// Returns the LRA of a name, if its group and its home exist.
 pub fn lra_of(gateway: &Gateway, name: Option<Name>) -> Option<Lra> {
     let Name { number, id } = name?;
     let group = gateway.group(number)?;
@@ -56,8 +56,9 @@ pub fn lra_of(gateway: &Gateway, name: Option<Name>) -> Option<Lra> {
     Some(Lra { group, id, home })
 }
 
-/// An id as services know it, with the group's number behind it, but for the first: `URL` or `URL.2`. The
-/// same text each time, since services key their rows by it.
+/// Returns an id as services know it, with the group's number behind it unless that is the first
+/// group: `URL` or `URL.2`. It is the same text each time, because services use it as the key of
+/// their rows.
 pub fn url_of<R>(agent: &Agent<R>, group: &Group, id: LraId) -> Result<String, AllocError> {
     let (alloc, number) = (agent.alloc, group.number);
     let url = lra_narayana::url_of(alloc, agent.gateway.base.as_str(), id)?;
@@ -67,7 +68,7 @@ pub fn url_of<R>(agent: &Agent<R>, group: &Group, id: LraId) -> Result<String, A
     format!(in alloc; "{url}.{number}")
 }
 
-/// Where services find a participant, likewise.
+/// Returns the URL at which services find a participant, with the group's number in the same way.
 pub fn recovery_of<R>(
     agent: &Agent<R>,
     group: &Group,
@@ -82,7 +83,7 @@ pub fn recovery_of<R>(
     format!(in alloc; "{base}/lra-coordinator/recovery/{id}.{number}/{member}")
 }
 
-/// The number of a participant, which its path or recovery URL ends with.
+/// Returns the number of a participant, with which its path or recovery URL ends.
 pub fn member_in(text: &str) -> Option<u8> {
     let (_front, number) = text.trim_end_matches('/').rsplit_once('/')?;
     number.parse::<u8>().ok()

@@ -13,11 +13,12 @@ const MOST_NAME: usize = 16;
 #[derive(Drop)]
 pub struct Door {
     pub peer: Peer,
-    /// Its port for operators at the same host; none where it is a gateway, to which calls are handed.
+    /// The node's port for operators on the same host. `None` if the door leads to a gateway, to
+    /// which calls are handed.
     pub operate: Option<u16>,
 }
 
-/// An address with a port.
+/// Parses an address with a port.
 pub(crate) fn address_of(text: &str) -> Option<SocketAddr> {
     match text.parse::<SocketAddr>() {
         Ok(address) if address.port() > 0 => Some(address),
@@ -25,7 +26,8 @@ pub(crate) fn address_of(text: &str) -> Option<SocketAddr> {
     }
 }
 
-/// How many milliseconds a text says, or else are usual; nothing where it says them badly.
+/// Returns the number of milliseconds that a text states, or `usual` if there is no text. Returns
+/// `None` if the text is malformed.
 pub(crate) fn time_of(text: Option<&str>, usual: u64) -> Option<u64> {
     let Some(text) = text else {
         return Some(usual);
@@ -33,8 +35,9 @@ pub(crate) fn time_of(text: Option<&str>, usual: u64) -> Option<u64> {
     number_of(text)
 }
 
-/// Where it listens for nodes, and where nodes reach it. At a port alone it listens at each address of
-/// IPv4, and is reached over the loopback interface.
+/// Returns the address at which the gateway listens for nodes, and the one at which nodes reach it.
+/// If only a port is given, it listens on all IPv4 addresses, and nodes reach it over the loopback
+/// interface.
 pub(crate) fn calls_of(
     alloc: Global,
     calls: &str,
@@ -56,7 +59,8 @@ pub(crate) fn calls_of(
     }
 }
 
-/// Whether a byte may stand in what ids begin with. Ids stand between quotes in JSON, and in fields.
+/// Whether a byte may be in the beginning of ids. Ids are written between quotes in JSON, and in
+/// fields.
 fn is_base_byte(byte: u8) -> bool {
     byte.is_ascii_graphic() && byte != b'"' && byte != b'\\' && byte != b'?' && byte != b'#'
 }
@@ -65,7 +69,7 @@ fn are_base_bytes(bytes: &[u8]) -> bool {
     bytes.iter().all(|byte| is_base_byte(*byte))
 }
 
-/// What stands behind the scheme of a URL.
+/// Returns the part of a URL behind its scheme.
 fn behind_scheme(text: &str) -> Option<&str> {
     if let Some(rest) = text.strip_prefix("http://") {
         return Some(rest);
@@ -73,7 +77,7 @@ fn behind_scheme(text: &str) -> Option<&str> {
     text.strip_prefix("https://")
 }
 
-/// What ids begin with, by a text: without the slashes at its end.
+/// Returns the beginning of ids that a text gives, without the slashes at its end.
 pub(crate) fn base_of(text: &str) -> Option<&str> {
     let base = text.trim_end_matches('/');
     let Some(rest) = behind_scheme(base) else {
@@ -96,7 +100,8 @@ fn is_place(text: &str) -> bool {
     host_of(host).is_some() && port_of(port).is_some()
 }
 
-/// The hosts that a text allows, parted by commas; any are allowed where there is none.
+/// Returns the hosts that a text allows, separated by commas. If there is no text, any host is
+/// allowed.
 pub(crate) fn allowed_by(alloc: Global, text: Option<&str>) -> Result<Vec<String>, Unasked> {
     let mut hosts = Vec::new(alloc);
     let Some(text) = text else {
@@ -124,7 +129,7 @@ fn are_name_bytes(bytes: &[u8]) -> bool {
     bytes.iter().all(|byte| is_name_byte(*byte))
 }
 
-/// Whether a text may name a short form.
+/// Whether a text may be the name of a short form.
 fn is_name(text: &str) -> bool {
     let bytes = text.as_bytes();
     if bytes.len() < 1 || bytes.len() > MOST_NAME {
@@ -133,7 +138,8 @@ fn is_name(text: &str) -> bool {
     are_name_bytes(bytes)
 }
 
-/// Whether a text is the front of links behind `http://`: a host, maybe with a port and a path.
+/// Whether a text may be the beginning of links behind `http://`: a host, perhaps with a port and a
+/// path.
 fn is_front(text: &str) -> bool {
     if text.ends_with('/') {
         return false;
@@ -144,7 +150,7 @@ fn is_front(text: &str) -> bool {
     }
 }
 
-/// The short form that a text says: its name, and the front for which it stands.
+/// Returns the short form that a text describes: its name, and the beginning for which it stands.
 pub(crate) fn short_of(alloc: Global, text: &str) -> Result<Short, Unasked> {
     let Some((name, long)) = text.split_once('=') else {
         return Err(Unasked::OtherWords);
@@ -158,7 +164,7 @@ pub(crate) fn short_of(alloc: Global, text: &str) -> Result<Short, Unasked> {
     }
 }
 
-/// How the node is reached that a text names.
+/// Returns how to reach the node that a text names.
 fn door_of(alloc: Global, text: &str) -> Result<Door, Unasked> {
     let (place, operate) = match text.split_once('/') {
         Some((place, port)) => {
@@ -175,7 +181,7 @@ fn door_of(alloc: Global, text: &str) -> Result<Door, Unasked> {
     }
 }
 
-/// How the nodes of a group are reached, which are parted by commas.
+/// Returns how to reach the nodes of a group. The text separates them by commas.
 pub(crate) fn doors_of(alloc: Global, text: &str) -> Result<Vec<Door>, Unasked> {
     let mut doors = Vec::new(alloc);
     for part in text.split(',') {

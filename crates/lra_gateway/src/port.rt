@@ -1,5 +1,5 @@
-// Where services, or the nodes of a group, come: connections that wait for their request to be there, and
-// those whose request is.
+// The place where services or the nodes of a group connect: connections whose request isn't there
+// yet, and those whose request is.
 
 use lra_sockets::AcceptQueue;
 use std::alloc::Global;
@@ -7,22 +7,23 @@ use std::collections::VecDeque;
 use std::net::{SocketAddr, TcpStream};
 use std::sync::{Condvar, Mutex, Wait};
 
-// What lies under the lock.
+// The data that the lock guards.
 #[derive(Drop)]
 struct Waiting {
     streams: VecDeque<TcpStream>,
     has_ended: bool,
 }
 
-/// A port, and the connections that came there.
+/// A port, and its connections.
 #[derive(Drop)]
 pub struct Port {
     pub address: SocketAddr,
-    /// Whether only callers of this machine are served.
+    /// Whether only callers on this machine are served.
     pub is_loopback: bool,
-    /// Connections at which one thread looks, so who is silent or slow holds up nobody.
+    /// Connections that one thread looks at, so a caller that is silent or slow doesn't hold up the
+    /// others.
     pub queue: AcceptQueue,
-    /// Those whose request is there, for the workers.
+    /// Connections whose request is there, for the workers.
     ready: Mutex<Waiting>,
     came: Condvar,
 }
@@ -41,14 +42,14 @@ impl Port {
         }
     }
 
-    /// Hands a connection to a worker. One for which there is no memory is closed.
+    /// Hands a connection to a worker. If there is no memory for it, it is closed.
     pub fn put<R: Wait>(&self, rt: &R, stream: TcpStream) {
         let mut ready = self.ready.lock(rt);
         let _ = ready.streams.push_back(stream);
         self.came.notify_one();
     }
 
-    /// The first connection. It waits for one, and gives none once the program is to end.
+    /// Waits for a connection and returns the first. Returns `None` once the program is to end.
     pub fn take<R: Wait>(&self, rt: &R) -> Option<TcpStream> {
         let mut ready = self.came.wait_while(rt, self.ready.lock(rt), |ready| {
             ready.streams.is_empty() && !ready.has_ended
@@ -59,7 +60,7 @@ impl Port {
         ready.streams.pop_front()
     }
 
-    /// Sends the threads of this port home.
+    /// Makes the threads of this port end.
     pub fn end<R: Wait>(&self, rt: &R) {
         let mut ready = self.ready.lock(rt);
         ready.has_ended = true;

@@ -1,9 +1,9 @@
-// What the query of a service says.
+// The query of a service's request.
 
 /// The most digits of a time.
 const MAX_DIGITS: usize = 15;
 
-/// What a query says by a name; nothing where it says none.
+/// Returns the value of a name in a query, empty if there is none.
 pub fn said<'a>(query: &'a str, name: &str) -> &'a str {
     for pair in query.split('&') {
         if let Some((key, value)) = pair.split_once('=') {
@@ -15,7 +15,7 @@ pub fn said<'a>(query: &'a str, name: &str) -> &'a str {
     ""
 }
 
-/// A number of milliseconds, where none is 0.
+/// Returns the number of milliseconds that a text states; an empty text states 0.
 pub fn time_in(text: &str) -> Option<u64> {
     if text.is_empty() {
         return Some(0);

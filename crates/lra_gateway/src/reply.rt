@@ -13,17 +13,17 @@ pub struct Reply {
     pub code: u16,
     pub is_json: bool,
     pub text: String,
-    /// Where what was made is, and the field that tells it too.
+    /// The URL of what was made, and the field that also states it.
     pub made: Option<(&'static str, String)>,
 }
 
-/// The field that tells an LRA that was begun.
+/// The field that names an LRA that was begun.
 pub const LRA: &str = "Long-Running-Action";
 
-/// The field that tells where a participant is found.
+/// The field that says where a participant is found.
 pub const RECOVERY: &str = "Long-Running-Action-Recovery";
 
-/// A code with a text.
+/// Makes an answer with a code and a text.
 pub fn plain(alloc: Global, code: u16, text: &str) -> Result<Reply, AllocError> {
     Ok(Reply {
         code,
@@ -33,7 +33,7 @@ pub fn plain(alloc: Global, code: u16, text: &str) -> Result<Reply, AllocError> 
     })
 }
 
-/// A text of JSON.
+/// Makes an answer with a JSON text.
 pub fn json(text: String) -> Reply {
     Reply {
         code: 200,
@@ -43,7 +43,7 @@ pub fn json(text: String) -> Reply {
     }
 }
 
-/// What was made: an id, or a participant's recovery URL.
+/// Makes the answer about something that was made: an id, or a participant's recovery URL.
 pub fn made(
     alloc: Global,
     code: u16,
@@ -58,7 +58,7 @@ pub fn made(
     })
 }
 
-/// A node's refusal, as services know it.
+/// Makes the answer for a node's refusal, as services know it.
 pub fn refusal(alloc: Global, answer: &Answer) -> Result<Reply, AllocError> {
     let code = match answer.code {
         400 => 400,
@@ -69,7 +69,7 @@ pub fn refusal(alloc: Global, answer: &Answer) -> Result<Reply, AllocError> {
     plain(alloc, code, answer.refused())
 }
 
-/// What a service is told where no node answered.
+/// Makes the answer for a service if no node answered.
 pub fn failure(alloc: Global, fail: Fail) -> Result<Reply, AllocError> {
     let text = match fail {
         Fail::NoMemory => "no memory",
@@ -79,7 +79,7 @@ pub fn failure(alloc: Global, fail: Fail) -> Result<Reply, AllocError> {
     plain(alloc, 503, text)
 }
 
-/// The text of a response's field; nothing where it has none.
+/// Returns the text of a response's field, empty if it has none.
 fn text_in<'a>(response: &'a Response, name: &str) -> &'a str {
     match response.fields.value(name.as_bytes()) {
         Some(value) => str::from_utf8(value).unwrap_or(""),
@@ -87,7 +87,7 @@ fn text_in<'a>(response: &'a Response, name: &str) -> &'a str {
     }
 }
 
-/// The reply of another gateway.
+/// Makes the answer from the response of another gateway.
 pub fn reply_of(alloc: Global, response: &Response) -> Result<Reply, AllocError> {
     let code = response.status.as_u16();
     let text = str::from_utf8(response.body.as_slice()).unwrap_or("");
@@ -105,7 +105,7 @@ pub fn reply_of(alloc: Global, response: &Response) -> Result<Reply, AllocError>
     })
 }
 
-/// The response that tells it.
+/// Makes the response for an answer.
 pub fn response_of(alloc: Global, reply: Reply) -> Result<Response, AllocError> {
     let Reply {
         code,

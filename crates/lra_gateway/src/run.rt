@@ -10,13 +10,13 @@ use std::net::{SocketAddr, TcpListener, TcpStream};
 use std::thread;
 use std::thread::{Scope, Threads};
 
-/// How many threads serve services, each of which may wait for a node.
+/// The number of threads that serve services. Each of them may wait for a node.
 const SERVICES: usize = 128;
 
-/// How many calls each node makes at a time.
+/// The number of calls that each node makes at a time.
 const CALLS_OF_NODE: usize = 4;
 
-/// What a thread does, for the port of this number: 0 is that for services.
+/// The work of a thread for the port of this number. 0 is the port for services.
 #[derive(Clone, Copy, PartialEq, Eq)]
 enum Role {
     Accept(u8),
@@ -24,7 +24,7 @@ enum Role {
     Serve(u8),
 }
 
-/// Where a gateway takes connections: of services, and of the nodes of each group.
+/// The sockets at which a gateway accepts connections: of services, and of the nodes of each group.
 #[derive(Drop)]
 struct Listeners {
     services: TcpListener,
@@ -38,7 +38,7 @@ impl Listeners {
     }
 }
 
-/// Adds what the threads of a port do.
+/// Adds the roles of a port's threads.
 fn push_roles(roles: &mut Vec<Role>, number: u8, workers: usize) -> Result<(), AllocError> {
     roles.push(Role::Accept(number))?;
     roles.push(Role::Look(number))?;
@@ -48,7 +48,7 @@ fn push_roles(roles: &mut Vec<Role>, number: u8, workers: usize) -> Result<(), A
     Ok(())
 }
 
-/// What all threads do.
+/// Returns the roles of all threads.
 fn roles_of(alloc: Global, gateway: &Gateway) -> Result<Vec<Role>, AllocError> {
     let mut roles = Vec::new(alloc);
     push_roles(&mut roles, 0, SERVICES)?;
@@ -59,7 +59,7 @@ fn roles_of(alloc: Global, gateway: &Gateway) -> Result<Vec<Role>, AllocError> {
     Ok(roles)
 }
 
-/// Plays a role, until the program is to end.
+/// Does the work of a role until the program is to end.
 fn play<R: Host>(rt: &R, alloc: Global, gateway: &Gateway, listeners: &Listeners, role: Role) {
     let agent = Agent { rt, alloc, gateway };
     match role {
@@ -69,7 +69,7 @@ fn play<R: Host>(rt: &R, alloc: Global, gateway: &Gateway, listeners: &Listeners
     }
 }
 
-/// Starts a thread. It says whether one could be had.
+/// Starts a thread. Returns false if none was to be had.
 fn start<'s, E, R>(
     scope: &Scope<'s, E>,
     rt: &'s R,
@@ -86,7 +86,7 @@ where
         .is_ok()
 }
 
-/// Starts all threads. It says whether all could be had.
+/// Starts all threads. Returns whether all were to be had.
 fn start_all<'s, E, R>(
     scope: &Scope<'s, E>,
     rt: &'s R,
@@ -121,7 +121,7 @@ fn drain<I: Read + Drop>(mut input: I) {
     }
 }
 
-/// Sends all threads home. Those that accept are woken by a connection.
+/// Makes all threads end. Those that accept connections are woken by a connection.
 fn end<R: Host>(rt: &R, gateway: &Gateway) {
     let _first = gateway.signal.end(rt, StopReason::Program);
     gateway.port.end(rt);
@@ -132,7 +132,7 @@ fn end<R: Host>(rt: &R, gateway: &Gateway) {
     }
 }
 
-/// Serves services and nodes until the input ends. It says whether all threads could be had.
+/// Serves services and nodes until the input ends. Returns whether all threads were to be had.
 fn run<R, I: Read + Drop + Send>(
     rt: &R,
     alloc: Global,
@@ -153,7 +153,7 @@ where
     })
 }
 
-/// The port of an address, bound. Where that can't be had it is told.
+/// Binds the port of an address. Logs it if that fails.
 fn bound<R: Host>(rt: &R, address: SocketAddr) -> Option<TcpListener> {
     match TcpListener::bind(rt, address) {
         Ok(listener) => Some(listener),
@@ -164,7 +164,7 @@ fn bound<R: Host>(rt: &R, address: SocketAddr) -> Option<TcpListener> {
     }
 }
 
-/// All ports, bound.
+/// Binds all ports.
 fn listeners_of<R: Host>(rt: &R, alloc: Global, gateway: &Gateway) -> Option<Listeners> {
     let services = bound(rt, gateway.port.address)?;
     let mut groups = Vec::new(alloc);
@@ -174,8 +174,8 @@ fn listeners_of<R: Host>(rt: &R, alloc: Global, gateway: &Gateway) -> Option<Lis
     Some(Listeners { services, groups })
 }
 
-/// Serves services and nodes until the input ends, and gives the exit status: 1 where a port or a
-/// thread can't be had.
+/// Serves services and nodes until the input ends, and returns the exit status: 1 if a port or a
+/// thread wasn't to be had.
 pub fn run_gateway<R, I: Read + Drop + Send>(
     rt: &R,
     alloc: Global,

@@ -1,4 +1,4 @@
-// What services ask: Narayana's coordinator interface.
+// Serving services: Narayana's coordinator interface.
 
 use crate::agent::{Agent, Host};
 use crate::ending::{end, status};
@@ -13,7 +13,7 @@ use crate::starting::start;
 use lra_narayana::{Repeat, Request};
 use std::alloc::{AllocError, Global};
 
-/// What is asked of one LRA.
+/// What a request asks of an LRA.
 #[derive(Clone, Copy, PartialEq, Eq, Debug)]
 enum Act {
     Join,
@@ -23,18 +23,18 @@ enum Act {
     Cancel,
     Leave,
     Purge,
-    /// The links of the participant of this number.
+    /// The links of the participant with this number.
     Links(u8),
 }
 
 impl Act {
-    /// Whether each node can tell it, not only the LRA's home.
+    /// Whether each node can answer it, not only the LRA's home.
     fn is_told_by_all(self) -> bool {
         self == Act::Info || self == Act::Status
     }
 
-    /// Whether it may be asked again: a join whose answer was lost is looked up by its home's gateway
-    /// alone.
+    /// Returns when it may be repeated: if the answer to a join was lost, only the gateway of the
+    /// LRA's home looks the join up.
     fn repeat(self) -> Repeat {
         if self == Act::Join {
             Repeat::Unsent
@@ -44,7 +44,7 @@ impl Act {
     }
 }
 
-/// What is asked that isn't done, or isn't there.
+/// The answer to a request that isn't served or whose path doesn't exist.
 #[derive(Clone, Copy, PartialEq, Eq, Debug)]
 struct Undone {
     code: u16,
@@ -71,7 +71,7 @@ const NO_MOVE: Undone = Undone {
     text: "a participant can't be moved",
 };
 
-/// What a method and the words behind an id ask of an LRA.
+/// Returns what a method and the words behind an id ask of an LRA.
 fn act_of(method: &str, words: &[&str]) -> Result<Act, Undone> {
     match (method, words) {
         ("PUT", []) => Ok(Act::Join),
@@ -86,7 +86,7 @@ fn act_of(method: &str, words: &[&str]) -> Result<Act, Undone> {
     }
 }
 
-/// What a method and the words behind an id ask of its recovery.
+/// Returns what a method and the words behind an id ask of an LRA's recovery.
 fn recovery_of(method: &str, words: &[&str]) -> Result<Act, Undone> {
     match (method, words) {
         ("DELETE", []) => Ok(Act::Purge),
@@ -100,7 +100,7 @@ fn recovery_of(method: &str, words: &[&str]) -> Result<Act, Undone> {
     }
 }
 
-/// The parts of a path that aren't empty.
+/// Returns the parts of a path that aren't empty.
 fn parts_of(alloc: Global, path: &str) -> Result<Vec<&str>, AllocError> {
     let mut parts = Vec::new(alloc);
     for part in path.split('/') {
@@ -111,7 +111,7 @@ fn parts_of(alloc: Global, path: &str) -> Result<Vec<&str>, AllocError> {
     Ok(parts)
 }
 
-/// Does what is asked of an LRA, of whose home this gateway asks itself, or which each node can tell.
+/// Does what is asked of an LRA. This gateway asks the LRA's home itself, or each node can answer.
 fn act_here<R: Host>(
     agent: &Agent<R>,
     errand: &Errand,
@@ -130,8 +130,8 @@ fn act_here<R: Host>(
     }
 }
 
-/// Has the gateway beside an LRA's home do what is asked; what each node can tell, another where that
-/// one doesn't answer.
+/// Makes the gateway beside an LRA's home do what is asked. If each node can answer and that
+/// gateway doesn't, another node is asked.
 fn act_there<R: Host>(
     agent: &Agent<R>,
     errand: &Errand,
@@ -151,7 +151,7 @@ fn act_there<R: Host>(
     act_here(agent, errand, lra, act)
 }
 
-/// What is asked of the LRA of a name.
+/// Serves a request about the LRA of a name.
 fn serve_lra<R: Host>(
     agent: &Agent<R>,
     errand: &Errand,
@@ -173,7 +173,7 @@ fn serve_lra<R: Host>(
     }
 }
 
-/// What is asked behind `/lra-coordinator`.
+/// Serves a request whose path begins with `/lra-coordinator`.
 fn serve_words<R: Host>(agent: &Agent<R>, errand: &Errand, words: &[&str]) -> Result<Reply, Fail> {
     let method = errand.method();
     match (method, words) {
@@ -199,7 +199,7 @@ fn serve_path<R: Host>(agent: &Agent<R>, errand: &Errand) -> Result<Reply, Fail>
     }
 }
 
-/// What a service is answered.
+/// Answers a service.
 pub fn serve_service<R: Host>(agent: &Agent<R>, request: &Request) -> Result<Reply, AllocError> {
     let errand = errand_of(request);
     match serve_path(agent, &errand) {

@@ -1,4 +1,4 @@
-// What the threads of a gateway do: they take connections, look for requests, and serve them.
+// The work of a gateway's threads: they accept connections, look for requests, and serve them.
 
 use crate::agent::{Agent, Host};
 use crate::exchange::{field, length_field};
@@ -17,19 +17,19 @@ use std::io;
 use std::net::{IpAddr, TcpListener, TcpStream};
 use std::time::Duration;
 
-/// How long is waited for more of a request that is there, in milliseconds: a body in chunks may still
-/// come.
+/// How long the gateway waits for more of a request whose head is there, in milliseconds: a body in
+/// chunks may still be on its way.
 const SILENCE_MS: u64 = 500;
 
-/// How long such a body may take in all, and an answer to be written.
+/// How long such a body may take as a whole, and how long writing an answer may take.
 const REQUEST_MS: u64 = 5_000;
 
 const ANSWER_MS: u64 = 10_000;
 
-/// How long it waits where nothing comes of all that wait, in milliseconds.
+/// How long to rest if nothing comes over any of the waiting connections, in milliseconds.
 const REST_MS: u64 = 2;
 
-/// Whether who connected is of this machine.
+/// Whether a connection is from this machine.
 fn is_near(stream: &TcpStream) -> bool {
     match stream.peer_addr() {
         Ok(address) => match address.ip() {
@@ -40,7 +40,8 @@ fn is_near(stream: &TcpStream) -> bool {
     }
 }
 
-/// Whether who connected is to be turned away: from another machine, at a port that serves this one alone.
+/// Whether a connection is to be turned away: it is from another machine, at a port that serves
+/// only this one.
 fn is_foreign(port: &Port, came: &io::Result<TcpStream>) -> bool {
     match came {
         Ok(stream) => port.is_loopback && !is_near(stream),
@@ -48,7 +49,7 @@ fn is_foreign(port: &Port, came: &io::Result<TcpStream>) -> bool {
     }
 }
 
-/// Takes connections and puts them on a port's queue, until the program is to end.
+/// Accepts connections and puts them on a port's queue, until the program is to end.
 pub fn accept<R: Host>(agent: &Agent<R>, port: &Port, listener: &TcpListener) {
     for came in listener.incoming() {
         if !is_foreign(port, &came) {
@@ -61,8 +62,8 @@ pub fn accept<R: Host>(agent: &Agent<R>, port: &Port, listener: &TcpListener) {
     }
 }
 
-/// Looks for requests among the connections of a port, and hands those to workers whose request is
-/// there, until the program is to end. Who is silent waits beside the others.
+/// Looks for requests among the connections of a port, and hands the connections that have one to
+/// workers, until the program is to end. A silent connection doesn't hold up the others.
 pub fn look<R: Host>(agent: &Agent<R>, port: &Port) {
     let mut silent = 0usize;
     for _ in agent.rt.forever() {
@@ -83,7 +84,7 @@ pub fn look<R: Host>(agent: &Agent<R>, port: &Port) {
     }
 }
 
-/// Whether who asked has closed the connection, and so waits for no answer.
+/// Whether the caller has closed the connection and so waits for no answer.
 fn is_gone(stream: &TcpStream) -> bool {
     let mut byte = [0u8; 1];
     if stream.set_nonblocking(true).is_err() {
@@ -101,7 +102,7 @@ fn write<W: Sink>(alloc: Global, writer: &mut W, response: &Response) {
     let _ = write_response(alloc, writer, response);
 }
 
-/// The response that tells a node.
+/// Makes the response for a node.
 fn response_of_told(alloc: Global, told: Told) -> Result<Response, AllocError> {
     let text = match told.word {
         Some(status) => status.name(),
@@ -119,7 +120,7 @@ fn response_of_told(alloc: Global, told: Told) -> Result<Response, AllocError> {
     })
 }
 
-/// The response to a request at the port of this number, 0 for services.
+/// Returns the response to a request at the port with this number, 0 for services.
 fn answered<R: Host>(
     agent: &Agent<R>,
     number: u8,
@@ -135,8 +136,8 @@ fn answered<R: Host>(
     }
 }
 
-/// Serves one connection, if there is memory for it. Who has gone isn't served: a node that has given
-/// up calls again, and its first call, come late, might be out of order.
+/// Serves one connection, if there is memory for it. A caller that has gone isn't served: a node
+/// that has given up calls again, and its first call, if it were made late, might be out of order.
 fn serve_one<'a, R: Host>(
     agent: &'a Agent<R>,
     port: &'a Port,
@@ -169,7 +170,7 @@ fn serve_one<'a, R: Host>(
     Some(())
 }
 
-/// Serves one connection of a port after another, until the program is to end.
+/// Serves the connections of a port, one after another, until the program is to end.
 pub fn serve<R: Host>(agent: &Agent<R>, number: u8) {
     let port = agent.gateway.port_of(number);
     for _ in agent.rt.forever() {

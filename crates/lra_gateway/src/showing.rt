@@ -1,24 +1,24 @@
-// What an LRA shows, as services ask about it.
+// What an LRA shows, in the terms in which services ask.
 ghost use Rattle.std.specs.Prelude.{◌≡◌};
 ghost use Rattle.lra_gateway.specs.Showing.{goes_so, is_cancelled, is_closed, is_failed, is_recovering, is_to_end};
 
 use lra_id::LraStatus;
 
-/// Whether it is on its way to its end.
+/// Whether an LRA is on its way to its end.
 pub fn is_to_end(status: LraStatus) -> bool
     ensures { result ≡ is_to_end status }
 {
     matches!(status, LraStatus::Closing | LraStatus::Cancelling)
 }
 
-/// Whether it failed there.
+/// Whether an LRA failed to close or to cancel.
 pub fn is_failed(status: LraStatus) -> bool
     ensures { result ≡ is_failed status }
 {
     matches!(status, LraStatus::FailedToClose | LraStatus::FailedToCancel)
 }
 
-/// Whether the interface calls it recovering: it is on its way to its end, or failed there.
+/// Whether the interface calls an LRA recovering: it is on its way to its end, or failed there.
 pub fn is_recovering(status: LraStatus) -> bool
     ensures { result ≡ is_recovering status }
 {
@@ -43,7 +43,7 @@ fn is_cancelled(status: LraStatus) -> bool
     )
 }
 
-/// Whether it goes the way that a close, or a cancel, asks for.
+/// Whether an LRA goes the way that a close, or a cancel, asks for.
 pub fn goes_so(closes: bool, status: LraStatus) -> bool
     ensures { result ≡ goes_so closes status }
 {

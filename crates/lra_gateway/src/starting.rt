@@ -19,10 +19,10 @@ use std::time::Duration;
 /// How long to wait before all nodes are asked again, in milliseconds.
 const PAUSE_MS: u64 = 100;
 
-/// What came of a begin.
+/// The result of a begin.
 #[derive(Drop)]
 enum Begun {
-    /// What the service is told.
+    /// The answer for the service.
     Told(Reply),
     /// No LRA was begun, so another node may be asked.
     Not,
@@ -38,7 +38,7 @@ fn begin_body(alloc: Global, limit: u64, parent: Option<LraId>) -> Result<String
     }
 }
 
-/// A begin, which is made once.
+/// Makes the question that begins an LRA. It isn't repeated.
 fn begin(body: &str) -> Question {
     Question {
         method: Method::POST,
@@ -48,13 +48,13 @@ fn begin(body: &str) -> Question {
     }
 }
 
-/// Whether a node has no room for one more LRA.
+/// Whether a node has no room for another LRA.
 fn is_full(answer: &Answer) -> bool {
     let refused = answer.refused();
     refused.starts_with("E13") || refused.starts_with("E14")
 }
 
-/// What a service is told of a begin.
+/// Returns what a service is told about a begin.
 fn told_of<R: Host>(agent: &Agent<R>, group: &Group, answer: &Answer) -> Result<Reply, Fail> {
     let alloc = agent.alloc;
     if answer.code != 201 {
@@ -82,7 +82,7 @@ fn begin_at<R: Host>(
     }
 }
 
-/// Has the gateway beside a node begin one.
+/// Makes the gateway beside a node begin an LRA.
 fn begin_by<R: Host>(
     agent: &Agent<R>,
     group: &Group,
@@ -96,8 +96,8 @@ fn begin_by<R: Host>(
     }
 }
 
-/// Begins an LRA at one of the nodes that this gateway asks itself, from one on. The next is asked only
-/// where the one before did nothing, so no LRA is begun twice.
+/// Begins an LRA at one of the nodes that this gateway asks itself, starting with the one whose
+/// turn it is. The next node is asked only if the one before did nothing, so no LRA is begun twice.
 fn begin_here<R: Host>(agent: &Agent<R>, group: &Group, body: &str) -> Result<Begun, Fail> {
     let (first, count) = (group.next_turn(), group.doors.len());
     for turn in 0..count {
@@ -114,7 +114,7 @@ fn begin_here<R: Host>(agent: &Agent<R>, group: &Group, body: &str) -> Result<Be
     Ok(Begun::Not)
 }
 
-/// Has the gateway beside one of the other nodes begin it.
+/// Makes the gateway beside one of the other nodes begin an LRA.
 fn begin_there<R: Host>(agent: &Agent<R>, group: &Group, errand: &Errand) -> Result<Begun, Fail> {
     if errand.handed_for.is_some() {
         return Ok(Begun::Not);
@@ -130,7 +130,7 @@ fn begin_there<R: Host>(agent: &Agent<R>, group: &Group, errand: &Errand) -> Res
     Ok(Begun::Not)
 }
 
-/// Begins an LRA in one of the groups, from the one on whose turn it is.
+/// Begins an LRA in one of the groups, starting with the one whose turn it is.
 fn begin_in_turn<R: Host>(agent: &Agent<R>, errand: &Errand, body: &str) -> Result<Begun, Fail> {
     let groups = &agent.gateway.groups;
     let (first, count) = (agent.gateway.next_turn(), groups.len());
@@ -151,7 +151,7 @@ fn begin_in_turn<R: Host>(agent: &Agent<R>, errand: &Errand, body: &str) -> Resu
     Ok(Begun::Not)
 }
 
-/// Begins an LRA in no other, and tries again where no node did anything.
+/// Begins an LRA that has no parent, and tries again if no node did anything.
 fn begin_top<R: Host>(agent: &Agent<R>, errand: &Errand, limit: u64) -> Result<Reply, Fail> {
     let body = begin_body(agent.alloc, limit, None)?;
     let until = moment(agent.rt, agent.gateway.again);

@@ -1,8 +1,8 @@
-// What stands behind the names of words.
+// The values of the command line's words.
 
 use lra_words::{said_by, text_of};
 
-/// What stands behind the name of each word, and the words of short forms and of groups.
+/// The value of each named word, and the words of short forms and of groups.
 #[derive(Clone, Copy)]
 pub(crate) struct Given<'a> {
     pub listen: &'a str,
@@ -17,7 +17,7 @@ pub(crate) struct Given<'a> {
     pub groups: &'a [String],
 }
 
-/// How many words begin with a name, from the first on.
+/// Returns how many words from the first on begin with a name.
 fn count_of(name: &str, words: &[String]) -> usize {
     for place in 0..words.len() {
         if !words[place].as_str().starts_with(name) {
@@ -27,7 +27,7 @@ fn count_of(name: &str, words: &[String]) -> usize {
     words.len()
 }
 
-/// What the words give; nothing where they aren't these, in this order.
+/// Returns the values of the words, or `None` if they aren't these words in this order.
 pub(crate) fn given_by(words: &[String]) -> Option<Given<'_>> {
     let Some((listen, rest)) = said_by("listen=", words) else {
         return None;

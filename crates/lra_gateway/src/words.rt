@@ -22,29 +22,30 @@ const USUAL_AGAIN: u64 = 8_000;
 /// What the words ask for.
 #[derive(Drop)]
 pub struct Asked {
-    /// Where services reach it.
+    /// The address at which services reach it.
     pub listen: SocketAddr,
-    /// What ids begin with.
+    /// The beginning of ids.
     pub base: String,
-    /// Where it listens for the nodes of the first group, and where these reach it; those of each
-    /// further group do at the next port. Nodes reach it over the loopback interface where none is said.
+    /// The address at which it listens for the nodes of the first group, and the one at which these
+    /// reach it; for each further group it is the next port. Nodes reach it over the loopback
+    /// interface if none is given.
     pub calls: SocketAddr,
     pub via: Option<Peer>,
-    /// The time limit of an LRA that is begun without one, in milliseconds; 0 is none.
+    /// The time limit of an LRA that is begun without one, in milliseconds; 0 for none.
     pub limit: u64,
-    /// For how many milliseconds a close or cancel waits for the end.
+    /// How long a close or cancel waits for the end, in milliseconds.
     pub wait: u64,
-    /// For how many milliseconds a call is repeated that may be.
+    /// How long a call that may be repeated is repeated, in milliseconds.
     pub again: u64,
-    /// The hosts at which participants may be, each maybe with a port; any where none is said.
+    /// The hosts on which participants may be, each perhaps with a port; any if none is given.
     pub allow: Vec<String>,
-    /// The short forms, that of the longest front first.
+    /// The short forms, the one with the longest beginning first.
     pub shorts: Vec<Short>,
-    /// The groups, and of each its nodes in order.
+    /// The groups, each with its nodes in order.
     pub groups: Vec<Vec<Door>>,
 }
 
-/// Whether one of some short forms is this.
+/// Whether this is one of some short forms.
 fn stands_in(short: &str, shorts: &[Short]) -> bool {
     for other in shorts {
         if other.short.as_str() == short {
@@ -54,7 +55,7 @@ fn stands_in(short: &str, shorts: &[Short]) -> bool {
     false
 }
 
-/// Whether no two short forms have one name.
+/// Whether no two short forms have the same name.
 fn are_apart(shorts: &[Short]) -> bool {
     for place in 0..shorts.len() {
         if stands_in(shorts[place].short.as_str(), &shorts[..place]) {
@@ -64,7 +65,7 @@ fn are_apart(shorts: &[Short]) -> bool {
     true
 }
 
-/// The short forms that words say, in their order.
+/// Returns the short forms that words give, in their order.
 fn shorts_said(alloc: Global, words: &[String]) -> Result<Vec<Short>, Unasked> {
     let mut shorts = Vec::new(alloc);
     for word in words {
@@ -83,7 +84,8 @@ fn shorts_said(alloc: Global, words: &[String]) -> Result<Vec<Short>, Unasked> {
     Ok(shorts)
 }
 
-/// The short forms that words say, each of another name, that of the longest front first.
+/// Returns the short forms that words give, each with another name, the one with the longest
+/// beginning first.
 fn shorts_of(alloc: Global, words: &[String]) -> Result<Vec<Short>, Unasked> {
     let mut shorts = match shorts_said(alloc, words) {
         Ok(shorts) => shorts,
@@ -98,7 +100,7 @@ fn shorts_of(alloc: Global, words: &[String]) -> Result<Vec<Short>, Unasked> {
     }
 }
 
-/// The nodes of the group that a word says.
+/// Returns the nodes of the group that a word gives.
 fn group_of(alloc: Global, word: &str) -> Result<Vec<Door>, Unasked> {
     let Some(text) = word.strip_prefix("group=") else {
         return Err(Unasked::OtherWords);
@@ -113,7 +115,7 @@ fn group_of(alloc: Global, word: &str) -> Result<Vec<Door>, Unasked> {
     Ok(doors)
 }
 
-/// The groups that words say.
+/// Returns the groups that words give.
 fn groups_of(alloc: Global, words: &[String]) -> Result<Vec<Vec<Door>>, Unasked> {
     if words.is_empty() || words.len() > MOST_GROUPS {
         return Err(Unasked::OtherWords);
@@ -132,12 +134,13 @@ fn groups_of(alloc: Global, words: &[String]) -> Result<Vec<Vec<Door>>, Unasked>
     Ok(groups)
 }
 
-/// Whether so many ports, this the first, are ports.
+/// Whether `count` port numbers, beginning with this one, are valid.
 fn are_ports(first: u16, count: usize) -> bool {
     usize::from(first).saturating_add(count) <= usize::from(u16::MAX) + 1
 }
 
-/// Whether each group has a port at which its nodes call, and one at which they reach it.
+/// Whether there is a port for each group to listen at, and one at which its nodes reach the
+/// gateway.
 fn have_ports(calls: SocketAddr, via: &Option<Peer>, groups: usize) -> bool {
     if let Some(peer) = via
         && !are_ports(peer.port, groups)
@@ -147,7 +150,7 @@ fn have_ports(calls: SocketAddr, via: &Option<Peer>, groups: usize) -> bool {
     are_ports(calls.port(), groups)
 }
 
-/// What the words ask for.
+/// Returns what the words ask for.
 pub fn asked_by(alloc: Global, words: &[String]) -> Result<Asked, Unasked> {
     let Some(given) = given_by(words) else {
         return Err(Unasked::OtherWords);
