@@ -1,4 +1,4 @@
-// What clients and operators ask of nodes.
+// The requests of clients and operators to nodes.
 
 use crate::play::{Play, nowhere};
 use crate::words;
@@ -46,7 +46,7 @@ fn act_by(luck: &mut Luck) -> Act {
     }
 }
 
-/// A link in one of so many cases.
+/// Returns a link in one of `cases` cases.
 fn link_by(alloc: Global, luck: &mut Luck, cases: u64) -> Result<Option<String>, Halt> {
     if !luck.is_one_in(cases) {
         return Ok(None);
@@ -55,7 +55,7 @@ fn link_by(alloc: Global, luck: &mut Luck, cases: u64) -> Result<Option<String>,
     Ok(Some(format!(in alloc; "http://h{host}/x")?))
 }
 
-/// The text of a link, if there is one.
+/// Returns the text of a link, if there is one.
 fn text_of(link: &Option<String>) -> Option<&str> {
     match link {
         Some(text) => Some(text.as_str()),
@@ -63,7 +63,7 @@ fn text_of(link: &Option<String>) -> Option<&str> {
     }
 }
 
-/// Links of a participant, or in few cases of one that listens alone.
+/// Picks the links of a participant or, in few cases, of a listener.
 fn links_by(alloc: Global, luck: &mut Luck) -> Result<Links, Halt> {
     let complete = link_by(alloc, luck, 2)?;
     let compensate = link_by(alloc, luck, 1)?;
@@ -88,7 +88,7 @@ fn links_by(alloc: Global, luck: &mut Luck) -> Result<Links, Halt> {
     )?)
 }
 
-/// What a participant would have said.
+/// Picks what a participant might have answered.
 fn said_by(luck: &mut Luck, kind: Kind, id: LraId, member: u8) -> Command {
     let act = match kind {
         Kind::Forget => return Command::Forgot { id, member },
@@ -106,7 +106,7 @@ fn said_by(luck: &mut Luck, kind: Kind, id: LraId, member: u8) -> Command {
 }
 
 impl<R: Runs> Play<R> {
-    /// A begin, perhaps in an LRA, by a moment or at no time.
+    /// Picks a begin, perhaps of a nested LRA, with a deadline or without one.
     fn begin_lra(&mut self, place: usize, id: Option<LraId>) -> Command {
         let parent = if self.luck.is_one_in(2) { id } else { None };
         if !self.luck.is_one_in(4) {
@@ -125,7 +125,7 @@ impl<R: Runs> Play<R> {
         }
     }
 
-    /// One who is due at a node, by what it has.
+    /// Picks a participant to whom a call is due, as far as the node knows.
     fn some_due(&mut self, place: usize, id: LraId) -> Result<Option<DueCall>, Halt> {
         let Some(node) = self.nodes.get(place) else {
             return Err(nowhere());
@@ -137,7 +137,7 @@ impl<R: Runs> Play<R> {
         Ok(dues.get(self.luck.place(dues.len())).copied())
     }
 
-    /// Somebody says what a participant would have said: one that is due, or any.
+    /// Picks what a participant might have answered: one to whom a call is due, or any.
     fn say(&mut self, place: usize, id: LraId) -> Result<Command, Halt> {
         if let Some(due) = self.some_due(place, id)? {
             return Ok(said_by(&mut self.luck, due.kind, due.id, due.member));
@@ -149,7 +149,7 @@ impl<R: Runs> Play<R> {
 
     fn command(&mut self, place: usize, id: LraId) -> Result<Command, Halt> {
         let (member, me) = (member_by(&mut self.luck), self.me(place)?);
-        // Of another home's LRAs a node enters only what was heard.
+        // About another home's LRAs, a node stores only participants' answers.
         let is_home = id.home() == me || self.luck.is_one_in(4);
         let sort = if is_home { self.luck.below(20) } else { 19 };
         match sort {
@@ -179,7 +179,7 @@ impl<R: Runs> Play<R> {
         }
     }
 
-    /// Operators want something entered, or shown; or give up what they wanted.
+    /// Lets operators want a command or a question, or give up what they wanted.
     pub fn ask_operator(&mut self, place: usize) -> Result<(), Halt> {
         if self.luck.is_one_in(3) {
             self.want(place, Call::Survey(None), Wanted::Question);
@@ -197,7 +197,7 @@ impl<R: Runs> Play<R> {
         }
     }
 
-    /// A client has a node enter something.
+    /// Lets a client send a node a command.
     pub fn ask_client(&mut self, place: usize) -> Result<(), Halt> {
         let command = self.some_command(place)?;
         let (me, said) = (self.me(place)?, words::of_command(self.alloc, &command)?);

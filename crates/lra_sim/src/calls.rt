@@ -1,4 +1,4 @@
-// The calls that threads of a node make, and what comes of each.
+// The calls of a node's threads, and the effects of each.
 
 use crate::play::{Play, nowhere};
 use lra_book::{Call, Reply};
@@ -27,7 +27,8 @@ impl<R: Runs> Play<R> {
         }
     }
 
-    /// Makes a call of a thread of a node; no reply comes where it isn't up, holds the call back, or stops.
+    /// Makes a call of a thread of a node. Returns no reply if the node isn't up, holds the call
+    /// back, or stops.
     pub fn call(&mut self, place: usize, caller: usize, call: Call) -> Result<Option<Reply>, Halt> {
         let asked = Asked::of(&call)?;
         match self.make(place, caller, call, &asked) {
@@ -43,7 +44,8 @@ impl<R: Runs> Play<R> {
         }
     }
 
-    /// A call was refused: the journal failed, or the run is full. It may be for no other cause.
+    /// Handles the refusal of a call: the journal failed, or the run is full. It may have no other
+    /// cause.
     fn refuse(&mut self, place: usize, asked: Asked, refusal: Refusal) -> Result<(), Halt> {
         if refusal == Refusal::RunFull {
             return self.next_run(place);
@@ -55,7 +57,7 @@ impl<R: Runs> Play<R> {
         self.fail(place, doubt)
     }
 
-    /// What a call was to store that was cut off.
+    /// Returns what a call that was cut off would have stored.
     fn doubt_of(&self, place: usize, asked: Asked) -> Result<Doubt, Halt> {
         match self.nodes.get(place) {
             Some(node) => Ok(node.doubt_of(asked, self.now)),
@@ -63,7 +65,7 @@ impl<R: Runs> Play<R> {
         }
     }
 
-    /// A call was made, and is answered.
+    /// Records a call that was made and its reply.
     fn enter_reply(&mut self, place: usize, asked: Asked, reply: &Reply) -> Result<(), Halt> {
         if let Some(taken) = taken_by(&asked, reply) {
             let front = self.front(place)?.join(&taken);
@@ -77,7 +79,7 @@ impl<R: Runs> Play<R> {
         self.see_reply(place, named, reply)
     }
 
-    /// What a call enters may be entered.
+    /// Checks that what a call stored was allowed to be stored.
     fn see_entered(&self, place: usize, asked: &Asked, reply: &Reply) -> Result<(), Halt> {
         let Some(node) = self.nodes.get(place) else {
             return Err(nowhere());

@@ -1,4 +1,4 @@
-// What is looked at after each step: whether a node shows and holds what its facts say.
+// The checks after each step: whether a node shows and holds what its facts demand.
 
 use crate::play::{Play, nowhere};
 use lra_book::{Call, Reply};
@@ -7,7 +7,7 @@ use lra_luck::Halt;
 use lra_run::Runs;
 
 impl<R: Runs> Play<R> {
-    /// Looks whether a node shows what its facts say.
+    /// Checks that a node shows what its facts demand.
     pub fn look(&mut self, place: usize) -> Result<(), Halt> {
         let reply = self.call(place, 1, Call::Page(None))?;
         self.see_listed(place, &reply)?;
@@ -27,7 +27,7 @@ impl<R: Runs> Play<R> {
         }
     }
 
-    /// How many LRAs a node shows.
+    /// Returns how many LRAs a node shows.
     fn count_of(&self, place: usize) -> usize {
         match self.nodes.get(place) {
             Some(node) => node.known.shown().len(),
@@ -35,7 +35,7 @@ impl<R: Runs> Play<R> {
         }
     }
 
-    /// One of the LRAs that a node shows, or mostly none.
+    /// Picks one of the LRAs that a node shows, but mostly none.
     fn some_shown(&mut self, place: usize) -> Option<LraId> {
         let count = self.count_of(place);
         if count == 0 || !self.luck.is_one_in(3) {
@@ -48,7 +48,7 @@ impl<R: Runs> Play<R> {
         }
     }
 
-    /// Looks whether a node holds of an LRA what its facts say.
+    /// Checks that a node's record of an LRA is what its facts demand.
     fn look_at(&mut self, place: usize, id: LraId) -> Result<(), Halt> {
         let reply = self.call(place, 2, Call::Record(id))?;
         match self.nodes.get(place) {

@@ -1,6 +1,6 @@
-//! Plays nodes in one thread, under what a seed decides: `lra_sim SEED SEEDS EVENTS [NODES [TOLD]]`, from a seed on so
-//! many, each with so many events. It stops at the first thing that isn't as it has to be, and tells of it with the last
-//! 20 events, or TOLD.
+//! Simulates nodes in one thread, under events that a seed decides: `lra_sim SEED SEEDS EVENTS
+//! [NODES [TOLD]]` simulates SEEDS seeds, beginning with SEED, each with EVENTS events. It stops at
+//! the first thing that isn't as it has to be, and prints that with the last 20 events, or TOLD.
 #![tactic(auto)]
 
 mod asking;
@@ -23,7 +23,7 @@ use std::{env, io};
 
 const USAGE: &str = "usage: lra_sim SEED SEEDS EVENTS [NODES [TOLD]]";
 
-/// What is to be played.
+/// What is to be simulated.
 #[derive(Clone, Copy)]
 struct Asked {
     seed: u64,
@@ -33,7 +33,7 @@ struct Asked {
     told: u64,
 }
 
-/// Plays so many events, and the quiet at the end.
+/// Simulates this many events, and the quiet at the end.
 fn play_all<R: Runs>(play: &mut Play<R>, events: u64) -> Result<(), Halt> {
     play.start_all()?;
     for _event in 0..events {
@@ -42,7 +42,7 @@ fn play_all<R: Runs>(play: &mut Play<R>, events: u64) -> Result<(), Halt> {
     play.end()
 }
 
-/// Prints what a play was stopped for.
+/// Prints why a simulation stopped.
 fn print_halt<P: Print, R: Runs>(rt: &P, play: &Play<R>, seed: u64, halt: &Halt) -> io::Result<()> {
     let (nodes, steps) = (play.count(), play.steps);
     match halt {
@@ -60,7 +60,7 @@ fn print_told<P: Print, R: Runs>(rt: &P, play: &Play<R>) -> io::Result<()> {
     Ok(())
 }
 
-/// Plays on, and prints what it comes to: its steps and facts, or what it found.
+/// Runs a simulation and prints its result: its steps and facts, or what it found.
 fn print_play<P: Print, R: Runs>(
     rt: &P,
     play: &mut Play<R>,
@@ -86,7 +86,7 @@ fn print_play<P: Print, R: Runs>(
     Ok(true)
 }
 
-/// Plays by a seed.
+/// Simulates one seed.
 fn played<P: Print>(rt: &P, alloc: Global, seed: u64, nodes: u8, asked: Asked) -> io::Result<bool> {
     let told = usize::try_from(asked.told).unwrap_or(TOLD).max(TOLD);
     let Ok(mut play) = Play::<Run<Store>>::new(alloc, seed, nodes, told) else {
@@ -96,7 +96,7 @@ fn played<P: Print>(rt: &P, alloc: Global, seed: u64, nodes: u8, asked: Asked) -
     print_play(rt, &mut play, seed, asked.events, told > TOLD)
 }
 
-/// How many nodes there are: as many as are asked for, or what the seed says.
+/// Returns the number of nodes: as many as are asked for, otherwise as many as the seed says.
 fn nodes_of(asked: u64, seed: u64) -> u8 {
     match u8::try_from(asked) {
         Ok(nodes) if nodes > 0 => nodes,
@@ -109,7 +109,7 @@ fn nodes_of(asked: u64, seed: u64) -> u8 {
     }
 }
 
-/// The numbers that are given.
+/// Reads the numbers of the command line.
 fn numbers<E: Env + Alloc>(rt: &E) -> Option<Asked> {
     let mut given = Vec::new(rt.alloc());
     for word in env::args(rt).ok()?.skip(1) {

@@ -1,4 +1,4 @@
-// How nodes start and stop, and open and close their journals.
+// Starting and stopping nodes, and opening and closing their journals.
 
 use crate::play::{Play, nowhere};
 use crate::words;
@@ -6,11 +6,11 @@ use lra_id::{Front, NodeId};
 use lra_luck::{Doubt, Fate, Halt, Remains};
 use lra_run::{Opening, Runs};
 
-/// How long nothing is stored once a journal was opened again, in milliseconds.
+/// How long nothing is stored after a journal was opened again, in milliseconds.
 const PAUSE_MS: u64 = 100;
 
 impl<R: Runs> Play<R> {
-    /// When calls of a disk fail that is opened now.
+    /// Picks when the calls of the disk that is opened now fail.
     fn fate(&mut self) -> Fate {
         if self.is_quiet {
             Fate::good()
@@ -41,7 +41,7 @@ impl<R: Runs> Play<R> {
         }
     }
 
-    /// Looks whether a book that was opened has the facts of its copy.
+    /// Checks that a book that was opened has the facts of its copy.
     fn settle(&mut self, place: usize, copy: usize, has: Front) -> Result<(), Halt> {
         match self.nodes.get_mut(place) {
             Some(node) => node.settle(&mut self.history, copy, has),
@@ -49,7 +49,7 @@ impl<R: Runs> Play<R> {
         }
     }
 
-    /// A call of the disk of a node failed before its journal was open.
+    /// Handles a call of a node's disk that failed before its journal was open.
     fn leave(&mut self, place: usize, copy: usize, files: &Remains) -> Result<(), Halt> {
         let loses_power = self.luck.is_one_in(2);
         if let Some(node) = self.nodes.get_mut(place) {
@@ -58,7 +58,7 @@ impl<R: Runs> Play<R> {
         self.tell(words::of_text(self.alloc, "its disk fails before it is open")?)
     }
 
-    /// The place of the newest copy of a node's disk.
+    /// Returns the place of the newest copy of a node's disk.
     pub fn newest(&self, place: usize) -> usize {
         match self.nodes.get(place) {
             Some(node) => node.newest(),
@@ -81,7 +81,7 @@ impl<R: Runs> Play<R> {
         self.begin(place, run)
     }
 
-    /// A node has what an older copy has.
+    /// Leaves a node with what an older copy has.
     fn fall_back(
         &mut self,
         place: usize,
@@ -104,7 +104,7 @@ impl<R: Runs> Play<R> {
         Ok(())
     }
 
-    /// How many facts of a node the others have heard of.
+    /// Returns how many facts of a node the others have received.
     fn known_of(&self, me: NodeId) -> u64 {
         let mut most = 0;
         for node in self.nodes.iter() {
@@ -115,14 +115,16 @@ impl<R: Runs> Play<R> {
         most
     }
 
-    /// What nobody else has heard of a node that has so many of its facts is lost. What it told is on its way to nobody.
+    /// Loses the facts of a node beyond the `count` that it has, except those that another node has
+    /// received. What it sent and is still in transit is lost too.
     fn lose(&mut self, place: usize, me: NodeId, count: u64) -> Result<(), Halt> {
         self.pulls.retain(|pull| pull.teller != place);
         let known = self.known_of(me);
         self.history.forget(me, count.max(known))
     }
 
-    /// What nobody has or has heard of any more is lost, of those who started over an older copy and aren't open yet.
+    /// Loses the facts that no node has or has received any more, for nodes that started over an
+    /// older copy and don't accept commands yet.
     pub fn forget_lost(&mut self) -> Result<(), Halt> {
         for place in 0..self.nodes.len() {
             self.forget_lost_of(place)?;
@@ -142,7 +144,7 @@ impl<R: Runs> Play<R> {
         self.history.forget(me, own.max(known))
     }
 
-    /// A node whose journal was closed opens it again, and nothing is stored for a while.
+    /// Opens the closed journal of a node again. Nothing is stored for a while.
     pub fn reopen(&mut self, place: usize) -> Result<(), Halt> {
         let me = self.me(place)?;
         self.tell(words::of_reopening(self.alloc, me)?)?;
@@ -181,7 +183,8 @@ impl<R: Runs> Play<R> {
         }
     }
 
-    /// A call of the disk failed: the machine stops, or the node goes on and opens its journal again.
+    /// Handles a failed call of the disk: the machine stops, or the node goes on and opens its
+    /// journal again.
     pub fn fail(&mut self, place: usize, doubt: Doubt) -> Result<(), Halt> {
         if self.luck.is_one_in(2) {
             return self.stop(place, doubt);
@@ -199,7 +202,7 @@ impl<R: Runs> Play<R> {
         }
     }
 
-    /// Ends a run of a node, and begins the next, of the book over the same connection.
+    /// Ends a run of a node and begins the next, with the book over the same connection.
     pub fn next_run(&mut self, place: usize) -> Result<(), Halt> {
         match self.open_next(place)? {
             Some(Opening::Begun(run)) => self.go_on_with(place, run),
@@ -222,7 +225,7 @@ impl<R: Runs> Play<R> {
         }
     }
 
-    /// A call of the disk failed between two runs.
+    /// Handles a call of the disk that failed between two runs.
     fn fail_between(&mut self, place: usize, files: &Remains) -> Result<(), Halt> {
         let loses_power = self.luck.is_one_in(2);
         self.keep_files(place, files, loses_power)?;

@@ -9,10 +9,10 @@ use lra_run::Runs;
 use std::alloc::Global;
 use std::collections::VecDeque;
 
-/// How many events are told of once something is found.
+/// The number of events that are printed once something is found.
 pub const TOLD: usize = 20;
 
-/// The nodes, and all that is round them.
+/// The nodes and their surroundings.
 #[derive(Drop)]
 pub struct Play<R: Runs> {
     pub alloc: Global,
@@ -21,7 +21,7 @@ pub struct Play<R: Runs> {
     pub history: History,
     pub nodes: Vec<Node<R>>,
     pub pulls: Vec<Pull>,
-    /// Between which nodes there is no network, by their places.
+    /// The pairs of nodes between which there is no network, by their places.
     pub cuts: Vec<Cut>,
     pub hosts: Vec<Manner>,
     /// Whether nothing fails any more.
@@ -31,7 +31,7 @@ pub struct Play<R: Runs> {
     most: usize,
 }
 
-/// Between these nodes there is no network, the lower place first.
+/// Two nodes between which there is no network, the lower place first.
 #[derive(Clone, Copy)]
 pub struct Cut {
     pub low: usize,
@@ -47,7 +47,7 @@ fn time_by(luck: &mut Luck) -> Option<u64> {
     }
 }
 
-/// Hosts that all answer well.
+/// Makes hosts that all answer well.
 pub fn good_hosts(alloc: Global) -> Result<Vec<Manner>, Halt> {
     let mut hosts = Vec::new(alloc);
     for _host in 0..HOSTS {
@@ -56,7 +56,7 @@ pub fn good_hosts(alloc: Global) -> Result<Vec<Manner>, Halt> {
     Ok(hosts)
 }
 
-/// Hosts that answer as luck has it.
+/// Makes hosts that answer as luck decides.
 fn hosts_by(alloc: Global, luck: &mut Luck) -> Result<Vec<Manner>, Halt> {
     let mut hosts = Vec::new(alloc);
     for _host in 0..HOSTS {
@@ -89,7 +89,7 @@ fn given_twice(alloc: Global, me: NodeId, number: u64) -> Result<Halt, Halt> {
     Ok(Halt::Found(format!(in alloc; "{me} gives number {number} twice")?))
 }
 
-/// Why a play is over where a place is no node's.
+/// Returns why a simulation ends if a place is no node's.
 pub fn nowhere() -> Halt {
     Halt::Stuck("no such node")
 }
@@ -115,12 +115,12 @@ impl<R: Runs> Play<R> {
         })
     }
 
-    /// How many nodes there are.
+    /// Returns how many nodes there are.
     pub fn count(&self) -> u8 {
         u8::try_from(self.nodes.len()).unwrap_or(MAX_NODES)
     }
 
-    /// The node at a place.
+    /// Returns the node at a place.
     pub fn me(&self, place: usize) -> Result<NodeId, Halt> {
         match self.nodes.get(place) {
             Some(node) => Ok(node.me),
@@ -128,7 +128,7 @@ impl<R: Runs> Play<R> {
         }
     }
 
-    /// The facts that the node at a place has.
+    /// Returns the facts that the node at a place has.
     pub fn front(&self, place: usize) -> Result<Front, Halt> {
         match self.nodes.get(place) {
             Some(node) => Ok(node.front()),
@@ -136,7 +136,7 @@ impl<R: Runs> Play<R> {
         }
     }
 
-    /// What is there of the node at a place, while it runs.
+    /// Returns the state of the node at a place, while it runs.
     pub fn life(&mut self, place: usize) -> Option<&mut Life<R>> {
         match self.nodes.get_mut(place) {
             Some(node) => node.life.as_mut(),
@@ -144,7 +144,7 @@ impl<R: Runs> Play<R> {
         }
     }
 
-    /// A node, by its place.
+    /// Picks a node by its place.
     pub fn some_place(&mut self) -> usize {
         self.luck.place(self.nodes.len())
     }
@@ -174,7 +174,7 @@ impl<R: Runs> Play<R> {
         false
     }
 
-    /// A node has the facts of a front now.
+    /// Gives a node the facts of a front.
     pub fn grow(&mut self, place: usize, front: Front) -> Result<(), Halt> {
         let Some(node) = self.nodes.get_mut(place) else {
             return Err(nowhere());
@@ -182,7 +182,7 @@ impl<R: Runs> Play<R> {
         node.grow(&self.history, front, self.now)
     }
 
-    /// A node enters a fact.
+    /// Adds a fact that a node stored.
     pub fn add(&mut self, place: usize, body: Body) -> Result<(), Halt> {
         let Some(node) = self.nodes.get_mut(place) else {
             return Err(nowhere());
@@ -196,7 +196,7 @@ impl<R: Runs> Play<R> {
         node.grow_by_one(&self.history, self.now)
     }
 
-    /// Which LRAs a node may be asked about.
+    /// Picks an LRA about which a node may be asked.
     pub fn some_lra(&mut self, place: usize) -> Result<Option<LraId>, Halt> {
         let home = if self.luck.is_one_in(5) {
             self.some_place()

@@ -1,4 +1,4 @@
-// How nodes pull from one another. That a pull waits stands once more in lra_server/src/run/holding.rt.
+// Pulls between nodes. The rule by which a pull waits is that of lra_server/src/run/holding.rt.
 
 use crate::play::{Play, nowhere};
 use lra_book::{Call, Reply};
@@ -14,7 +14,7 @@ use std::alloc::Global;
 /// The pass of the worker that serves pulls.
 const SERVES: usize = 4;
 
-/// What the body of a pull says that its asker has.
+/// Returns the front that the body of a pull states for its sender.
 fn front_told(count: u8, body: &[u8]) -> Result<Front, Halt> {
     match front_of_pull(usize::from(count.clamp(1, MAX_NODES)), body) {
         Ok(front) => Ok(front),
@@ -22,7 +22,7 @@ fn front_told(count: u8, body: &[u8]) -> Result<Front, Halt> {
     }
 }
 
-/// The response that carries a frame.
+/// Makes the response that carries a frame.
 fn response_of(alloc: Global, delta: &Delta) -> Result<Vec<u8>, Halt> {
     let frame = encode(alloc, delta)?;
     let size = frame.len();
@@ -33,7 +33,7 @@ fn response_of(alloc: Global, delta: &Delta) -> Result<Vec<u8>, Halt> {
     Ok(bytes)
 }
 
-/// What another node tells by these bytes, if it is whole.
+/// Returns what another node sent with these bytes, if it is whole.
 fn told_by(alloc: Global, other: NodeId, front: &Front, bytes: &[u8]) -> Option<Telling> {
     let mut writer = OverWrite::new(Vec::new(alloc));
     let mut reader = OverRead::new(bytes);
@@ -48,7 +48,7 @@ fn owed_for_ever(alloc: Global, from: NodeId) -> Result<Halt, Halt> {
 }
 
 impl<R: Runs> Play<R> {
-    /// The front that a node counts on, once it knows what it has.
+    /// Returns the front from which a node pulls, once the node knows what it has.
     fn counted(&mut self, place: usize) -> Option<Front> {
         self.life(place)?.counted()
     }
@@ -62,7 +62,8 @@ impl<R: Runs> Play<R> {
         false
     }
 
-    /// A node begins to pull from another, unless it does already, or doesn't know what it has.
+    /// Begins a pull, unless the node already pulls from that other node, or doesn't know what it
+    /// has.
     pub fn begin_pull(&mut self, asker: usize, teller: usize) -> Result<(), Halt> {
         if asker == teller || self.is_pulling(asker, teller) {
             return Ok(());
@@ -79,7 +80,7 @@ impl<R: Runs> Play<R> {
         Ok(())
     }
 
-    /// A pull goes on: it is served, or comes back, or is lost.
+    /// Takes a pull one stage further: it is served, or comes back, or is lost.
     pub fn go_on(&mut self, chosen: usize) -> Result<(), Halt> {
         if chosen >= self.pulls.len() {
             return Ok(());
@@ -99,8 +100,8 @@ impl<R: Runs> Play<R> {
         }
     }
 
-    /// Whether a node that is asked owes the one that asks facts of its own, which it has heard of and not stored. It owes
-    /// nothing that was given up.
+    /// Whether the node that is asked owes the asking node facts of that node's own: it has
+    /// received them and not stored them. Checks that it owes nothing that was given up.
     fn is_owed(&mut self, asker: usize, teller: usize, front: &Front) -> Result<bool, Halt> {
         let from = self.me(asker)?;
         let Some(life) = self.life(teller) else {
@@ -113,7 +114,7 @@ impl<R: Runs> Play<R> {
         Ok(is_owed)
     }
 
-    /// A worker of the one that is asked serves a pull, unless that is to wait.
+    /// Lets a worker of the node that is asked serve a pull, unless the pull has to wait.
     fn serve(&mut self, asker: usize, teller: usize, front: Front) -> Result<(), Halt> {
         if self.is_owed(asker, teller, &front)? {
             self.pulls.push(Pull {
@@ -135,7 +136,7 @@ impl<R: Runs> Play<R> {
         self.answer(asker, teller, front, delta)
     }
 
-    /// A node tells of all that it has.
+    /// Checks that a node sends all that it has.
     fn see_told(&self, teller: usize, delta: &Delta) -> Result<(), Halt> {
         match self.nodes.get(teller) {
             Some(node) => node.see_told(delta),
@@ -151,7 +152,7 @@ impl<R: Runs> Play<R> {
         }
     }
 
-    /// The response to a pull is on its way, and may be cut off.
+    /// Sends the response to a pull on its way. It may be cut off.
     fn answer(
         &mut self,
         asker: usize,
@@ -172,7 +173,7 @@ impl<R: Runs> Play<R> {
         Ok(())
     }
 
-    /// What comes of the bytes that another node told.
+    /// Handles the bytes that another node sent.
     fn hear_answer(
         &mut self,
         asker: usize,

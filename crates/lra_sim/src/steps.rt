@@ -1,4 +1,4 @@
-// Which step comes next, and the end of a play: quiet, and one round.
+// The choice of the next step, and the end of a simulation: quiet, and one round.
 
 use crate::play::{Cut, Play, good_hosts};
 use lra_id::{LraStatus, NodeId};
@@ -6,12 +6,12 @@ use lra_life::{HOSTS, Node};
 use lra_luck::{Doubt, Halt, Manner};
 use lra_run::Runs;
 
-/// How many rounds the quiet at the end has, and how long each is, in milliseconds.
+/// The number of rounds of the quiet at the end, and the length of each in milliseconds.
 const ROUNDS: u64 = 240;
 
 const ROUND_MS: u64 = 500;
 
-/// The rounds that there are at least.
+/// The least number of rounds.
 const LEAST_ROUNDS: u64 = 9;
 
 /// More tasks than a node has at one moment.
@@ -32,13 +32,13 @@ fn is_any_ending<R: Runs>(node: &Node<R>) -> bool {
     false
 }
 
-/// Whether nothing is left for a node to do, and it may enter what comes.
+/// Whether a node has nothing left to do and accepts commands.
 fn is_idle<R: Runs>(node: &Node<R>) -> Result<bool, Halt> {
     Ok(node.is_open() && node.known.dues()?.is_empty() && !is_any_ending(node))
 }
 
 impl<R: Runs> Play<R> {
-    /// All nodes start, one after another.
+    /// Starts all nodes, one after another.
     pub fn start_all(&mut self) -> Result<(), Halt> {
         for place in 0..self.nodes.len() {
             self.start(place, 0)?;
@@ -60,7 +60,7 @@ impl<R: Runs> Play<R> {
         }
     }
 
-    /// Something happens.
+    /// Simulates one step.
     pub fn step(&mut self) -> Result<(), Halt> {
         self.steps = self.steps.saturating_add(1);
         self.forget_lost()?;
@@ -102,7 +102,7 @@ impl<R: Runs> Play<R> {
         Ok(())
     }
 
-    /// A run ends that had no fault, and the next begins.
+    /// Ends a run without a fault, and begins the next.
     fn end_run(&mut self, place: usize) -> Result<(), Halt> {
         if self.luck.is_one_in(8) {
             self.next_run(place)
@@ -130,7 +130,7 @@ impl<R: Runs> Play<R> {
         self.go_on(chosen)
     }
 
-    /// Whether a node has started over an older copy that isn't open yet.
+    /// Whether a node has started over an older copy and doesn't accept commands yet.
     fn is_anyone_behind(&self) -> bool {
         for node in self.nodes.iter() {
             if node.is_recovering {
@@ -149,7 +149,7 @@ impl<R: Runs> Play<R> {
         true
     }
 
-    /// A node starts or stops.
+    /// Starts or stops a node.
     fn power(&mut self, place: usize) -> Result<(), Halt> {
         if self.is_shut(place) {
             return self.reopen(place);
@@ -163,7 +163,8 @@ impl<R: Runs> Play<R> {
         self.stop(place, Doubt::Nothing)
     }
 
-    /// A node stops, and starts over an older copy at once, where there is one and the others know what it told.
+    /// Stops a node, and starts it over an older copy at once, if there is one and the others know
+    /// what the node sent.
     pub fn strike(&mut self, place: usize) -> Result<(), Halt> {
         let may_stop = !self.is_quiet && self.is_up(place) && !self.is_shut(place);
         if !may_stop || self.is_anyone_behind() {
@@ -173,7 +174,7 @@ impl<R: Runs> Play<R> {
         self.start_any(place)
     }
 
-    /// A node starts over the newest copy, or over an older one where the others know what it told.
+    /// Starts a node over the newest copy or, if the others know what it sent, over an older one.
     fn start_any(&mut self, place: usize) -> Result<(), Halt> {
         let (me, newest) = (self.me(place)?, self.newest(place));
         let may_be_older = newest > 0 && self.nodes.len() > 1 && self.are_others_open(me);
@@ -184,7 +185,7 @@ impl<R: Runs> Play<R> {
         self.start(place, newest)
     }
 
-    /// A host answers otherwise, the network is cut or mended, or a clock is set.
+    /// Changes how a host answers, cuts or mends the network, or sets a clock.
     fn trouble(&mut self) -> Result<(), Halt> {
         match self.luck.below(4) {
             0 => self.change_host(),
@@ -203,7 +204,7 @@ impl<R: Runs> Play<R> {
         }
     }
 
-    /// There is no network between two nodes any more. Where there is no memory for that, there is.
+    /// Cuts the network between two nodes, unless memory for that runs out.
     fn cut(&mut self) {
         let one = self.some_place();
         let other = self.some_place();
@@ -224,8 +225,8 @@ impl<R: Runs> Play<R> {
         }
     }
 
-    /// All is well from now on: every node runs, every host answers, and the network is there. Some nodes start anew, and
-    /// some go on as they are.
+    /// Makes everything work from now on: every node runs, every host answers, and the network is
+    /// there. Some nodes are restarted, and some go on as they are.
     fn calm(&mut self) -> Result<(), Halt> {
         self.is_quiet = true;
         self.cuts.clear();
@@ -245,7 +246,7 @@ impl<R: Runs> Play<R> {
         self.start(place, self.newest(place))
     }
 
-    /// A node that is down starts, and one whose journal is closed opens it again.
+    /// Starts a node that is down, and opens the journal of a node whose journal is closed.
     fn revive(&mut self, place: usize) -> Result<(), Halt> {
         if self.is_shut(place) {
             return self.reopen(place);
@@ -256,7 +257,7 @@ impl<R: Runs> Play<R> {
         self.start(place, self.newest(place))
     }
 
-    /// Each node does all that it has to do at one moment.
+    /// Lets each node do all that it has to do at one moment.
     fn settle_down(&mut self) -> Result<(), Halt> {
         for place in 0..self.nodes.len() {
             self.revive(place)?;
@@ -275,7 +276,7 @@ impl<R: Runs> Play<R> {
         Ok(())
     }
 
-    /// A node does what is next, if anything is.
+    /// Lets a node do what is next. Returns false if there was nothing to do.
     fn do_some(&mut self, place: usize) -> Result<bool, Halt> {
         let has_entered = self.enter(place)?;
         let has_begun = self.begin_call(place)?;
@@ -290,7 +291,7 @@ impl<R: Runs> Play<R> {
         Ok(())
     }
 
-    /// Each node pulls from each other, and all pulls end: each goes on twice at most.
+    /// Lets each node pull from each other, until all pulls end: each goes on at most twice.
     fn pull_all(&mut self) -> Result<(), Halt> {
         for asker in 0..self.nodes.len() {
             self.begin_pulls(asker)?;
@@ -305,7 +306,7 @@ impl<R: Runs> Play<R> {
         Ok(())
     }
 
-    /// Whether nothing is left to be done, and all nodes are alike.
+    /// Whether nothing is left to do and all nodes are alike.
     fn is_done(&self) -> Result<bool, Halt> {
         let first = self.front(0)?;
         for node in self.nodes.iter() {
@@ -323,7 +324,7 @@ impl<R: Runs> Play<R> {
         Ok(())
     }
 
-    /// A round of the quiet. It says whether nothing is left to be done.
+    /// Simulates a round of the quiet. Returns whether nothing is left to do.
     fn go_round(&mut self, round: u64) -> Result<bool, Halt> {
         self.steps = self.steps.saturating_add(1);
         self.now = self.now.saturating_add(ROUND_MS);
@@ -337,7 +338,7 @@ impl<R: Runs> Play<R> {
         self.is_done()
     }
 
-    /// After quiet and a round all nodes are alike, and all that was decided has ended.
+    /// Checks that after quiet and a round all nodes are alike, and all that was decided has ended.
     pub fn end(&mut self) -> Result<(), Halt> {
         self.calm()?;
         for round in 0..ROUNDS {

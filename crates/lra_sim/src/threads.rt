@@ -1,5 +1,6 @@
-// What the threads of a node do, each a step: who enters, and who calls. `do_task` and what it calls stand once more in
-// lra_server/src/run, `apply_loop.rt` and `sweeping.rt`.
+// The threads of a node, each of which does a step: the writer thread, and the caller threads.
+// `do_task` and what it calls do the same as `apply_loop.rt` and `sweeping.rt` of
+// lra_server/src/run.
 
 use crate::play::{Play, nowhere};
 use crate::words;
@@ -15,13 +16,13 @@ use lra_run::Runs;
 use lra_turns::{Came, Due};
 use std::alloc::Global;
 
-/// How many calls a host has at a time, at most.
+/// The most calls to a host at a time.
 const SHARE: usize = 2;
 
 /// How long a host may take, in milliseconds.
 const PATIENCE_MS: u64 = 10_000;
 
-/// The pass of the thread that enters.
+/// The pass of the writer thread.
 const ENTERS: usize = 0;
 
 fn is_took(reply: &Option<Reply>) -> bool {
@@ -43,13 +44,13 @@ fn too_many(alloc: Global) -> Result<Halt, Halt> {
     Ok(Halt::Found(format!(in alloc; "a host has three calls at a time")?))
 }
 
-/// What is heard where these bytes come.
+/// Returns the result of a call to which these bytes are the response.
 fn called(alloc: Global, due: Due, bytes: &[u8]) -> Result<Letter, Unheard> {
     let mut caller = NetCaller::new(OverRead::new(bytes), OverWrite::new(Vec::new(alloc)));
     call_for(alloc, &mut caller, due)
 }
 
-/// What is heard of a host that answers so, and what came where nothing is.
+/// Returns the result of a call to a host that answers in this manner.
 fn heard_of(alloc: Global, manner: Manner, due: Due) -> Result<Result<Letter, Unheard>, Halt> {
     if manner == Manner::Hangs {
         return Ok(Err(Unheard {
@@ -62,7 +63,8 @@ fn heard_of(alloc: Global, manner: Manner, due: Due) -> Result<Result<Letter, Un
 }
 
 impl<R: Runs> Play<R> {
-    /// The thread that enters takes its next task, or does the one that it took. It says whether there was one.
+    /// Lets the writer thread take its next task, or do the one that it took. Returns whether there
+    /// was one.
     pub fn enter(&mut self, place: usize) -> Result<bool, Halt> {
         let waits = !self.is_quiet && self.luck.is_one_in(3);
         if let Some(taken) = self.take_task(place) {
@@ -81,7 +83,8 @@ impl<R: Runs> Play<R> {
         self.life(place)?.take_task()
     }
 
-    /// What the thread that enters does next, if its journal is open, and whether it may enter something of its own.
+    /// Returns what the writer thread does next, if the journal is open, and whether it may store
+    /// something of the node's own.
     fn next_task(&mut self, place: usize) -> Option<(Task, bool)> {
         let now = self.now;
         let life = self.life(place)?;
@@ -92,7 +95,7 @@ impl<R: Runs> Play<R> {
         Some((next, life.is_open()))
     }
 
-    /// Does a task, or has it wait for the next step. It says whether there was one.
+    /// Does a task, or leaves it for the next step. Returns whether there was one.
     fn do_or_wait(&mut self, place: usize, task: Task, waits: bool) -> Result<bool, Halt> {
         let is_rest = matches!(&task, Task::Rest);
         if !waits {
@@ -103,7 +106,8 @@ impl<R: Runs> Play<R> {
         Ok(!is_rest)
     }
 
-    /// A node that is open has what it had lost; what others told goes to its mailbox.
+    /// Notes that an open node has back what it had lost, and hands what others sent to the
+    /// mailbox.
     fn settle_tellings(&mut self, place: usize, is_open: bool) -> Result<(), Halt> {
         let Some(node) = self.nodes.get_mut(place) else {
             return Ok(());
@@ -130,7 +134,7 @@ impl<R: Runs> Play<R> {
         }
     }
 
-    /// Asks how many facts there are, to tell the others.
+    /// Asks how many facts the node has, which it tells the others.
     fn count_facts(&mut self, place: usize) -> Result<(), Halt> {
         let call = pull_of_all(self.alloc, self.count())?;
         let reply = self.call(place, ENTERS, call)?;
@@ -187,7 +191,7 @@ impl<R: Runs> Play<R> {
         self.strike(usize::from(from.number()).saturating_sub(1))
     }
 
-    /// Asks whom to call, and looks whether the model says the same.
+    /// Asks for the duties, and checks that the model demands the same.
     fn ask(&mut self, place: usize) -> Result<(), Halt> {
         let now = self.now;
         if let Some(life) = self.life(place) {
@@ -231,7 +235,7 @@ impl<R: Runs> Play<R> {
         self.tell(words::of_expiry(self.alloc, id)?)
     }
 
-    /// Nothing of a node is overdue.
+    /// Checks that no LRA of a node is overdue.
     fn see_quiet(&self, place: usize) -> Result<(), Halt> {
         match self.nodes.get(place) {
             Some(node) => node.see_quiet(self.now),
@@ -266,7 +270,7 @@ impl<R: Runs> Play<R> {
         Ok(())
     }
 
-    /// A thread begins to call a participant, if one is to be called.
+    /// Lets a thread begin to call a participant, if one is to be called.
     pub fn begin_call(&mut self, place: usize) -> Result<bool, Halt> {
         let now = self.now;
         let Some(life) = self.life(place) else {
@@ -282,7 +286,7 @@ impl<R: Runs> Play<R> {
         Ok(true)
     }
 
-    /// A call that begins is on the newest list, and its host has room for it.
+    /// Checks that a call that begins is on the newest list, and that its host has room for it.
     fn see_call(&mut self, who: &DueCall, is_listed: bool, is_full: bool) -> Result<(), Halt> {
         self.tell(words::of_call(self.alloc, who)?)?;
         if is_full {
@@ -294,7 +298,7 @@ impl<R: Runs> Play<R> {
         Ok(())
     }
 
-    /// How many calls of a node are on their way.
+    /// Returns how many calls of a node are under way.
     fn calls_of(&self, place: usize) -> usize {
         match self.nodes.get(place) {
             Some(node) => node.calls(),
@@ -302,7 +306,7 @@ impl<R: Runs> Play<R> {
         }
     }
 
-    /// The host of a call of a node, and how long ago the call began.
+    /// Returns the host of a node's call, and how long ago the call began.
     fn seen_of(&mut self, place: usize, chosen: usize) -> Option<(usize, u64)> {
         let now = self.now;
         let (host, began) = self.life(place)?.call_at(chosen)?;
@@ -313,7 +317,7 @@ impl<R: Runs> Play<R> {
         self.life(place)?.end_call(chosen)
     }
 
-    /// A call of a node that is on its way ends, if one can.
+    /// Ends a call of a node, if one can end.
     pub fn end_call(&mut self, place: usize) -> Result<bool, Halt> {
         let count = self.calls_of(place);
         if count == 0 {
@@ -334,7 +338,7 @@ impl<R: Runs> Play<R> {
         Ok(true)
     }
 
-    /// How a host answers.
+    /// Returns how a host answers.
     fn manner_of(&self, host: usize) -> Manner {
         self.hosts.get(host).copied().unwrap_or(Manner::Well)
     }

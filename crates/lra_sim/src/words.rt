@@ -1,4 +1,4 @@
-// What happens, in words.
+// Events in words.
 
 use lra_book::Reply;
 use lra_facts::{Command, CommandReply, Links};
