@@ -1,5 +1,5 @@
-//! Tests of answers: what is heard of participants that run in well-known servers, what a home
-//! answers that is asked for a tree, and calls that only tests make.
+//! Tests of answers: how answers of participants that run in well-known servers are read, what a
+//! home answers when it is asked for a tree, and calls that only tests make.
 #![tactic(auto)]
 
 #[cfg(test)]

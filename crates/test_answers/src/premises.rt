@@ -1,5 +1,5 @@
-// One proved call of each public function with a premise that no program meets: so the premise can
-// be met.
+// One proved call of each public function with a premise that no program meets. It shows that the
+// premise can be met.
 use lra_delta::laws::since_by_scan;
 use lra_facts::{Body, Fact, Links, plain};
 use lra_forest::Forest;

@@ -1,5 +1,5 @@
-// Answers of participants as servers write them, by their public documents: to a call to complete,
-// with an empty body if they can.
+// Answers of participants as servers write them, according to the servers' public documents: to a
+// call to complete, with an empty body if possible.
 use http::Method;
 use lra_callback::{Answer, Heard, Kind, NetCaller, hear};
 use lra_http::{Bytes, CallRequest, Fields, OverRead, OverWrite, Text};
@@ -9,7 +9,7 @@ use std::test::Fail;
 
 const DONE: Heard = Heard::Outcome(Outcome::Done);
 
-/// The server, what it writes, the code that is read, and what is heard.
+/// The server, what it writes, the code that is read, and what is learned from the answer.
 const ANSWERS: [(&str, &str, Option<u16>, Heard); 14] = [
     (
         "WildFly, a method without a result",
@@ -108,7 +108,7 @@ fn completion(alloc: Global) -> Result<CallRequest, Fail> {
     })
 }
 
-/// What a participant answers that writes this text.
+/// Returns the answer of a participant that writes this text.
 fn answer_of(alloc: Global, text: &str) -> Result<Answer, Fail> {
     let writer = OverWrite::new(Vec::new(alloc));
     let mut caller = NetCaller::new(OverRead::new(text.as_bytes()), writer);

@@ -4,7 +4,7 @@ use lra_replica::Replica;
 use std::alloc::Global;
 use std::test::Fail;
 
-/// Node 1 begins an LRA, and it is kept.
+/// Lets node 1 begin an LRA, which is kept.
 fn begin(
     alloc: Global,
     replica: &mut Replica,
