@@ -1,4 +1,5 @@
-// A clerk of a book, called by its bound: over a journal in memory, and over files that could stop.
+// A book's clerk that is called by its bound: over a journal in memory, and over files that can
+// stop.
 ghost use Rattle.std.specs.Prelude.{◌≡◌, [], None, Some, IfOk};
 
 use lra_book::{Book, BookClerk, Call, Clerk, Pass, Receipt, Reply};
@@ -9,9 +10,9 @@ use sqlite_disk::{Files, Fuse, Memory};
 use std::alloc::Global;
 use std::test::Fail;
 
-/// The book of node 1 of 2 over a connection. It is opened here alone, since a function is proved
-/// sooner without the long clauses of that call; so is each other long call made in a function of
-/// its own.
+/// Opens the book of node 1 of 2 over a connection. The book is opened only here, because a
+/// function is proved sooner without the long clauses of that call. For the same reason each other
+/// long call is in a function of its own.
 fn open<S: Alter + Drop>(
     alloc: Global,
     connection: Connection<S>,
@@ -25,7 +26,7 @@ fn open<S: Alter + Drop>(
     }
 }
 
-/// The book over a connection.
+/// Opens the book over a connection.
 fn opened<S: Alter + Drop>(alloc: Global, connection: Connection<S>) -> Result<Book<S>, Fail>
     ensures { IfOk result (λ book. (book.opening ≡ None)
         × (book.trail ≡ []) × (book.journal.opened ≡ connection)) }
@@ -36,7 +37,7 @@ fn opened<S: Alter + Drop>(alloc: Global, connection: Connection<S>) -> Result<B
     }
 }
 
-/// The book over a connection, with a run on, and the run's pass.
+/// Opens the book over a connection and begins a run. Returns the book and the run's pass.
 pub(crate) fn begun<S: Alter + Drop>(
     alloc: Global,
     connection: Connection<S>,
@@ -49,7 +50,7 @@ pub(crate) fn begun<S: Alter + Drop>(
     Ok((book, pass))
 }
 
-/// A clerk of a run over a connection.
+/// Makes a clerk of a run over a connection.
 pub(crate) fn clerk<S: Alter + Drop>(
     alloc: Global,
     connection: Connection<S>,
@@ -72,12 +73,12 @@ fn idles<C: Clerk>(alloc: Global, clerk: &mut C) -> Result<bool, Fail> {
     Ok(is_idle(clerk.reply()))
 }
 
-/// Whether a book has what a pass has seen, and these receipts.
+/// Checks that a book has what a pass has seen, and these receipts.
 fn looked<S: Alter>(book: &Book<S>, pass: &Pass, receipts: &[Receipt]) -> Result<(), Refusal> {
     book.look(pass, receipts)
 }
 
-/// Has a clerk of a book over a connection make one call, and looks at the trail.
+/// Lets a clerk of a book over a connection make one call, and checks the trail.
 fn plays<S: Alter + Drop>(alloc: Global, connection: Connection<S>) -> Result<Connection<S>, Fail> {
     let mut clerk = clerk(alloc, connection)?;
     let is_idle = idles(alloc, &mut clerk)?;
@@ -97,7 +98,7 @@ fn a_clerk_of_a_book_in_memory(rt: HostRuntime) -> Result<(), Fail> {
     Ok(())
 }
 
-/// A connection to new files that could stop.
+/// Opens a connection to new files that can stop.
 fn fused(alloc: Global) -> Result<Connection<FileStore<Fuse<Memory>>>, Fail> {
     let files = Files {
         log: Fuse::new(Memory::new(alloc), u64::MAX),

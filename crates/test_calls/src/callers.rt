@@ -18,7 +18,7 @@ fn completion(alloc: Global) -> Result<CallRequest, Fail> {
     })
 }
 
-/// What a caller gets as an answer.
+/// Returns the answer that a caller gets.
 fn called<C: Caller>(
     alloc: Global,
     caller: &mut C,
@@ -27,7 +27,7 @@ fn called<C: Caller>(
     caller.call(alloc, request)
 }
 
-/// The code of an answer, if it has one.
+/// Returns the code of an answer, if it has one.
 fn code_of(answer: &Answer) -> Option<u16> {
     match answer {
         Answer::Code(code, _) => Some(*code),

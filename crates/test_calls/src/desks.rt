@@ -1,4 +1,4 @@
-// A desk at which a worker calls, and the rows of the book that it gives back.
+// A desk at which a worker makes calls, and the rows of the book that comes back.
 ghost use Rattle.std.specs.Prelude.{◌≡◌, [], Some, IfOk, IsTrue};
 ghost use Rattle.sqlite.specs.Held.{state};
 ghost use Rattle.sqlite.specs.State.{HasCleanDisk};
@@ -15,7 +15,7 @@ use std::sync::Wait;
 use std::sync::ledger::Blank;
 use std::test::Fail;
 
-/// Makes a call at a desk, and says whether it was answered.
+/// Makes a call at a desk. Returns whether it was answered.
 fn makes_call<J: Run, S: Alter, R: Wait>(
     rt: &R,
     alloc: Global,
@@ -34,8 +34,8 @@ fn closed<S: Alter + Drop>(book: Book<S>) -> Connection<S>
     book.close()
 }
 
-/// Makes two calls at a desk of one worker, and closes it. Where the journal was opened on a store
-/// of its own, the connection that comes back is a journal still, if it is open.
+/// Makes two calls at a desk of one worker, and closes it. If the journal was opened on a store of
+/// its own, the connection that comes back is still a journal, if it is open.
 fn by_one<J: Run, S: Alter + Drop, R: Wait>(
     rt: &R,
     alloc: Global,
@@ -67,7 +67,7 @@ fn by_one<J: Run, S: Alter + Drop, R: Wait>(
     Ok(closed(book))
 }
 
-/// A book over a new store in memory, with a run on.
+/// Makes a book over a new store in memory, with a run begun.
 fn begun_in_memory(alloc: Global) -> Result<Book<MemStore>, Fail>
     ensures { IfOk result (λ book. (book.opening ≡ Some book.records)
         × (book.trail ≡ []) × IsOwn (state over_memory book.journal.opened)) }

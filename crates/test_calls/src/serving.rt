@@ -1,4 +1,4 @@
-// One request that the clerk of a book serves, from memory to memory.
+// One request that a book's clerk serves, from memory to memory.
 use crate::books::clerk;
 use lra_api::{Paths, ServeError, serve_one};
 use lra_book::Clerk;
@@ -7,7 +7,7 @@ use sqlite::Connection;
 use std::alloc::Global;
 use std::test::Fail;
 
-/// Has a clerk serve one request.
+/// Lets a clerk serve one request.
 fn served<C: Clerk>(alloc: Global, paths: &Paths, clerk: &mut C) -> Result<(), ServeError> {
     let mut reader = OverRead::new(b"GET /lra HTTP/1.1\r\nHost: p\r\n\r\n".as_slice());
     let mut writer = OverWrite::new(Vec::new(alloc));
