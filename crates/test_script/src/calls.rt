@@ -1,4 +1,4 @@
-// Duties, and what answers to calls are heard as.
+// Duties, and how answers to calls are interpreted.
 use crate::scripts::{plays, prints};
 use std::test::Fail;
 

@@ -1,11 +1,11 @@
-// Runs that end in the middle.
+// Runs that end midway.
 use lra_http::{OverRead, OverWrite};
 use lra_script::{ScriptFault, script};
 use std::io;
 use std::io::{Read, Write};
 
-/// Gives its bytes one at a time, each line after so many interruptions, fails once where it is
-/// cut, and then goes on.
+/// Returns its bytes one at a time, each line after this many interruptions, fails once at the cut,
+/// and then goes on.
 #[derive(Drop)]
 struct Halting<'a> {
     bytes: &'a [u8],
@@ -36,7 +36,7 @@ impl<'a> Read for Halting<'a> {
     }
 }
 
-/// Takes at most so many bytes a call, and none any more once it is full.
+/// Takes at most this many bytes a call, and none any more once it is full.
 #[derive(Drop)]
 struct Filling {
     bytes: Vec<u8>,
@@ -88,7 +88,7 @@ fn a_reader_that_fails_in_mid_stream(rt: HostRuntime) {
             script(rt.alloc(), &mut reader, &mut writer, 1),
             Err(ScriptFault::Read)
         );
-        // So many bytes are left when the read fails, and the second line has 12.
+        // `cut` is the number of bytes left when the read fails; the second line has 12.
         let whole: &[u8] = match cut {
             0 => b"began 1.1\nClosed\n",
             1..=12 => b"began 1.1\n",
@@ -118,7 +118,7 @@ fn a_writer_that_fails_in_mid_stream(rt: HostRuntime) {
     }
 }
 
-/// Takes all bytes, passes them on so many times, and then fails once.
+/// Takes all bytes, flushes them this many times, and then fails once.
 #[derive(Drop)]
 struct Stalling {
     bytes: Vec<u8>,
@@ -153,8 +153,8 @@ impl Write for Stalling {
     }
 }
 
-// What each line prints is passed on before the next line is read, and behind a failure no call is
-// made.
+// What each line prints is flushed before the next line is read, and no call is made after a
+// failure.
 #[test]
 fn a_writer_that_passes_nothing_on(rt: HostRuntime) {
     let outputs: [&[u8]; 3] = [

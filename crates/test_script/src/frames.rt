@@ -1,9 +1,9 @@
-// Worlds of two nodes that tell each other what they have.
+// Worlds of two nodes that send each other what they have.
 use crate::scripts::plays;
 use std::test::Fail;
 
-/// Two nodes hear different answers of one participant, and agree on the failure once each has the
-/// other's frame.
+/// Two nodes receive different answers from one participant, and agree on the failure once each has
+/// the other's frame.
 const FAILURE_AND_SUCCESS: [(&str, &str); 17] = [
     ("begin 1 0", "began 1.1"),
     (
@@ -27,8 +27,8 @@ const FAILURE_AND_SUCCESS: [(&str, &str); 17] = [
     ("front 1", "front 4 1"),
 ];
 
-/// A child that closed is shown cancelled where its parent's cancelling is known. A restart changes
-/// nothing.
+/// A child that closed is shown cancelled by nodes that know that its parent is cancelling. A
+/// restart changes nothing.
 const A_CLOSED_CHILD_OF_A_CANCELLED_PARENT: [(&str, &str); 17] = [
     ("begin 1 0", "began 1.1"),
     ("begin 1 0 1.1", "began 1.2 member 1"),
@@ -52,7 +52,7 @@ const A_CLOSED_CHILD_OF_A_CANCELLED_PARENT: [(&str, &str); 17] = [
     ("same 1 2", "same"),
 ];
 
-/// Frames that come again and late change nothing.
+/// Frames that arrive again and late change nothing.
 const FRAMES_COME_AGAIN_AND_LATE: [(&str, &str); 10] = [
     ("begin 1 0", "began 1.1"),
     ("send 1 0 0", "frame 1"),
@@ -66,7 +66,7 @@ const FRAMES_COME_AGAIN_AND_LATE: [(&str, &str); 10] = [
     ("front 2", "front 2 0"),
 ];
 
-/// A frame since a base that its taker doesn't count is a gap, and so is a base that its sender
+/// A frame since a base that the receiver doesn't count is a gap, and so is a base that its sender
 /// doesn't count.
 const A_GAP: [(&str, &str); 12] = [
     ("begin 1 0", "began 1.1"),
@@ -83,7 +83,7 @@ const A_GAP: [(&str, &str); 12] = [
     ("send 1 7 0", "refused E15 Gap 6 0"),
 ];
 
-/// An old frame brings nothing back that was purged.
+/// An old frame brings back nothing that was purged.
 const NOTHING_PURGED_COMES_BACK: [(&str, &str); 12] = [
     ("begin 1 0", "began 1.1"),
     ("close 1 1.1", "Closed"),
@@ -99,7 +99,7 @@ const NOTHING_PURGED_COMES_BACK: [(&str, &str); 12] = [
     ("same 1 2", "same"),
 ];
 
-/// Another node than the home reports, and decides nothing.
+/// A node other than the home reports, and decides nothing.
 const ANOTHER_NODE_REPORTS: [(&str, &str); 13] = [
     ("begin 1 0", "began 1.1"),
     (
@@ -119,7 +119,7 @@ const ANOTHER_NODE_REPORTS: [(&str, &str); 13] = [
     ("show 1 1.1", "Closing"),
 ];
 
-/// Two nodes go different ways, exchange frames and agree: the second example of the README.
+/// Two nodes diverge, exchange frames and agree: the second example of the README.
 const TWO_NODES_AGREE: [(&str, &str); 17] = [
     ("begin 1 0", "began 1.1"),
     (

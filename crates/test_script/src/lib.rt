@@ -1,5 +1,5 @@
-//! Tests of scripts by the public calls of `lra_script`. They stand here since a crate is proved
-//! twice where it has tests.
+//! Tests of scripts by the public calls of `lra_script`. They are in a crate of their own because a
+//! crate that has tests is proved twice.
 #![tactic(auto)]
 
 #[cfg(test)]

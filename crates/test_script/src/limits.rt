@@ -1,9 +1,9 @@
-// Sagas as deep and as wide as there may be, and homes that are purged and filled again.
+// Sagas of the greatest depth and width, and homes that are purged and filled again.
 use crate::scripts::prints;
 use std::alloc::{AllocError, Global};
 use std::test::Fail;
 
-/// A script, and what it is to print.
+/// A script, and what it has to print.
 #[derive(Drop)]
 struct Play {
     input: String,
@@ -18,7 +18,7 @@ impl Play {
         }
     }
 
-    /// Puts a line at the end, and what it is to print.
+    /// Appends a line, and what it has to print.
     fn line(&mut self, line: &str, answer: &str) -> Result<(), AllocError> {
         self.input.push_str(line)?;
         self.input.push_str("\n")?;
@@ -26,14 +26,14 @@ impl Play {
         self.output.push_str("\n")
     }
 
-    /// A join to an LRA, which is to give this member number.
+    /// Appends a join to an LRA, which has to give this member number.
     fn join(&mut self, alloc: Global, num: u16, member: u16) -> Result<(), AllocError> {
         let line = format!(in alloc; "join 1 1.{num} compensate=http://p/c")?;
         let answer = format!(in alloc; "joined {member}")?;
         self.line(&line, &answer)
     }
 
-    /// One compensation is due, and is done.
+    /// Appends lines by which one compensation is due and is done.
     fn compensated(&mut self, alloc: Global, num: u16, member: u16) -> Result<(), AllocError> {
         let due = format!(in alloc; "compensate 1.{num} {member}")?;
         let line = format!(in alloc; "answer 1 1.{num} {member} compensate 200")?;
@@ -64,8 +64,8 @@ fn thirty_two_participants_compensate_one_after_another(rt: HostRuntime) -> Resu
     Ok(())
 }
 
-/// Begins eight LRAs, each nested in the last, the first as 1.1 and the others with odd numbers.
-/// Each has a participant on both sides of the one that is nested in it.
+/// Begins eight LRAs, each nested in the one before, the first as 1.1 and the others with odd
+/// numbers. Each has a participant before and after the LRA that is nested in it.
 fn push_eight(alloc: Global, play: &mut Play) -> Result<(), AllocError> {
     play.line("begin 1 0", "began 1.1")?;
     play.join(alloc, 1, 1)?;
@@ -140,10 +140,11 @@ fn a_thousand_and_one_frames_are_kept(rt: HostRuntime) -> Result<(), Fail> {
     Ok(())
 }
 
-/// Where the fields begin of the frame of a node, the only one, that began an LRA and closed it.
+/// The offsets of the fields in the frame of a node that began an LRA and closed it; it is the only
+/// node.
 const FIELDS: [usize; 16] = [0, 4, 5, 9, 10, 18, 26, 34, 35, 37, 38, 46, 47, 55, 56, 64];
 
-/// The last field that begins at an offset up to this.
+/// Returns the last field that begins at or before this offset.
 fn field_at(offset: usize) -> usize {
     let mut last = 0;
     for field in FIELDS {

@@ -1,4 +1,5 @@
-// Listeners, which are told that an LRA has ended, and frames of version 1, which know none.
+// Listeners, which are notified that an LRA has ended, and frames of version 1, which have no
+// listeners.
 use crate::scripts::{plays, prints};
 use std::test::Fail;
 
@@ -19,7 +20,7 @@ const TOLD_BEFORE_THE_PURGE: [(&str, &str); 14] = [
     ("told 1 1.1 1", "refused E3 NotHeld"),
 ];
 
-/// A closed child may be cancelled as long as its root wants nothing, so its listener waits.
+/// A closed child may still be cancelled as long as its root wants nothing, so its listener waits.
 const TOLD_ONCE_THE_ROOT_IS_DECIDED: [(&str, &str); 9] = [
     ("begin 1 0", "began 1.1"),
     ("begin 1 0 1.1", "began 1.2 member 1"),
@@ -32,7 +33,7 @@ const TOLD_ONCE_THE_ROOT_IS_DECIDED: [(&str, &str); 9] = [
     ("told 1 1.2 1", "told"),
 ];
 
-/// A participant of the saga may listen too. It is told after all else.
+/// A participant of the saga may also listen. It is notified after everything else.
 const A_PARTICIPANT_THAT_LISTENS: [(&str, &str); 10] = [
     ("begin 1 0", "began 1.1"),
     (
@@ -62,7 +63,7 @@ const FRAMES_OF_BOTH_LENGTHS: [(&str, &str); 9] = [
     ("deliver 2 1 82", "refused E16 BadFrame 82"),
 ];
 
-/// A frame of either version brings a node the same.
+/// Frames of either version bring a node the same.
 const EITHER_VERSION_BRINGS_THE_SAME: [(&str, &str); 10] = [
     ("begin 1 0", "began 1.1"),
     ("join 1 1.1 compensate=http://p/c", "joined 1"),

@@ -29,7 +29,7 @@ fn links_that_are_refused(rt: HostRuntime) -> Result<(), Fail> {
     Ok(())
 }
 
-/// Puts the line of a join whose link has so many bytes at the end.
+/// Appends the line of a join whose link has this many bytes.
 fn push_join(input: &mut Vec<u8>, length: usize) -> Result<(), AllocError> {
     let start = b"http://p/";
     input.extend_from_slice(b"join 1 1.1 compensate=")?;
@@ -51,7 +51,7 @@ fn as_many_members_as_an_lra_has(rt: HostRuntime) -> Result<(), Fail> {
     Ok(())
 }
 
-/// What a script of a begin and so many joins prints.
+/// Returns what a script of a begin and this many joins prints.
 fn text_after_joins(alloc: Global, joins: usize) -> Result<Vec<u8>, AllocError> {
     let mut input = Vec::new(alloc);
     input.extend_from_slice(b"begin 1 0\n")?;

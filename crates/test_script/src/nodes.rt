@@ -1,4 +1,4 @@
-// What is asked of nodes: fronts, and what a tick does.
+// Questions to nodes: fronts, and the effects of a tick.
 use crate::scripts::{plays, prints};
 use std::test::Fail;
 

@@ -1,10 +1,10 @@
-// Nothing is stuck, and one round makes all alike: each once, as a play.
+// Nothing is stuck, and one round makes all nodes alike: one script for each.
 use crate::scripts::plays;
 use std::test::Fail;
 
 /// A child was cancelled, its parent closes, and a listener waits. When the parent is closed, three
-/// participants are not final, one gave a link to forget, and one is to hear of the end. So five
-/// answers lead to the purge, each to a call that the list names.
+/// participants are not final, one gave a link to forget, and one has to be notified of the end. So
+/// five answers lead to the purge, each to a call on the list.
 const A_TREE_IS_ENDED_BY_ITS_DUTIES_ALONE: [(&str, &str); 28] = [
     ("begin 1 0", "began 1.1"),
     (
@@ -42,8 +42,8 @@ const A_TREE_IS_ENDED_BY_ITS_DUTIES_ALONE: [(&str, &str); 28] = [
     ("show 1 1.3", "refused E3 NotHeld"),
 ];
 
-/// Three nodes go different ways. Then each sends a frame since nothing to each other: one frame is
-/// cut at first, one comes twice, an old one comes late, and node 3 sends its own when it has node
+/// Three nodes diverge. Then each sends a frame since nothing to each other. One frame is cut at
+/// first, one arrives twice, an old one arrives late, and node 3 sends its own when it has node
 /// 2's.
 const ONE_ROUND_AFTER_THREE_WAYS: [(&str, &str); 36] = [
     ("begin 1 0", "began 1.1"),
@@ -90,7 +90,8 @@ const ONE_ROUND_AFTER_THREE_WAYS: [(&str, &str); 36] = [
     ("front 1", "front 4 1 3"),
 ];
 
-// The home alone calls, by its own set: another node shows Closing until it hears of the end.
+// Only the home calls, according to its own set: another node shows Closing until it learns of the
+// end.
 const ANOTHER_NODE_LAGS_BEHIND_THE_HOME: [(&str, &str); 13] = [
     ("begin 1 0", "began 1.1"),
     (

@@ -1,4 +1,4 @@
-// What is forgotten and purged, and what is shown then.
+// Forgetting and purging, and what is shown after that.
 use crate::scripts::plays;
 use std::test::Fail;
 
@@ -40,7 +40,7 @@ const WORDS_THAT_PURGE_NOTHING: [(&str, &str); 6] = [
     ("forgot 1 1.1 33", "refused E1 BadText"),
 ];
 
-// A purge goes by what its home has heard: a failure that another node took is buried with it.
+// A purge goes by what its home has learned: a failure that another node took is buried with it.
 const A_PURGE_BURIES_A_FAILURE_FROM_ELSEWHERE: [(&str, &str); 20] = [
     ("begin 1 0", "began 1.1"),
     (

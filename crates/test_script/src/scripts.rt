@@ -1,4 +1,4 @@
-// What no clause says: the texts that outside examples give, and runs that end in the middle.
+// What no clause says: the texts that outside examples give, and runs that end midway.
 ghost use Rattle.std.specs.Prelude.{◌≤◌};
 
 use lra_http::{OverRead, OverWrite};
@@ -23,7 +23,7 @@ pub(crate) fn prints(alloc: Global, input: &[u8], output: &[u8]) -> bool {
     outcome.is_ok() && text.as_slice() == output
 }
 
-/// Whether a script of so many nodes and of these lines prints these answers, one for each.
+/// Whether a script of `nodes` nodes and of these lines prints these answers, one for each line.
 pub(crate) fn plays(alloc: Global, nodes: u8, steps: &[(&str, &str)]) -> Result<bool, AllocError>
     requires some { 1 ≤ nodes }
     requires few { nodes ≤ 8 }
@@ -38,7 +38,7 @@ pub(crate) fn plays(alloc: Global, nodes: u8, steps: &[(&str, &str)]) -> Result<
     Ok(outcome.is_ok() && text.as_slice() == output.as_slice())
 }
 
-/// Puts a line at the end.
+/// Appends a line.
 fn push_line(text: &mut Vec<u8>, line: &str) -> Result<(), AllocError> {
     text.extend_from_slice(line.as_bytes())?;
     text.extend_from_slice(b"\n")
@@ -168,7 +168,7 @@ fn as_many_lras_as_a_home_holds(rt: HostRuntime) -> Result<(), Fail> {
     Ok(())
 }
 
-/// Runs a script of so many begins, and then more lines.
+/// Runs a script of this many begins, followed by more lines.
 fn run_after(
     alloc: Global,
     begins: usize,
@@ -182,7 +182,7 @@ fn run_after(
     Ok(run(alloc, 1, &input))
 }
 
-/// The words of a text, which are parted by one space.
+/// Returns the words of a text, which are separated by one space.
 fn words_of(alloc: Global, text: &str) -> Result<Vec<String>, Fail> {
     let mut words = Vec::new(alloc);
     for word in text.split(' ') {
@@ -191,7 +191,7 @@ fn words_of(alloc: Global, text: &str) -> Result<Vec<String>, Fail> {
     Ok(words)
 }
 
-/// How a program with these words ends that is given an input, and what it writes.
+/// Returns how a program with these words ends on an input, and what it writes.
 fn ended(alloc: Global, words: &[String], input: &[u8]) -> (Ended, Vec<u8>) {
     let mut reader = OverRead::new(input);
     let mut writer = OverWrite::new(Vec::new(alloc));
