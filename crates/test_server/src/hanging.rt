@@ -1,5 +1,5 @@
-// A participant that takes connections and never answers, in more LRAs than a node has threads that
-// call, beside one that answers.
+// A participant that takes connections and never answers, in more LRAs than a node has caller
+// threads, next to one that answers.
 
 use crate::loopback::{address, is_done, needs, take_part};
 use std::alloc::Global;
@@ -7,21 +7,21 @@ use std::net::{Net, TcpListener, TcpStream};
 use std::test::Fail;
 use std::time::{Clock, Duration};
 
-/// The port of the participant that never answers, and of the one that answers.
+/// The ports of the participant that never answers, and of the one that answers.
 const HANGING: u16 = 18_478;
 
 const ANSWERING: u16 = 18_479;
 
-/// How many LRAs the one that never answers is in. The other is in the last.
+/// The number of LRAs that the participant that never answers is in. The other one is in the last.
 const LRAS: u64 = 7;
 
-/// How long the one that answers may wait for its call, in milliseconds. Each call of the other
-/// takes 10,000.
+/// How long the participant that answers may wait for its call, in milliseconds. Each call of the
+/// other one takes 10,000.
 const MAX_WAIT: u64 = 5_000;
 
 const BEGIN: &str = "POST /lra HTTP/1.1\r\nHost: p\r\nContent-Length: 0\r\n\r\n";
 
-/// Has a participant join an LRA, and closes it. It says whether both could be done.
+/// Lets a participant join an LRA, and closes the LRA. Returns whether both succeeded.
 fn joins_and_closes<R: Net<Stream = TcpStream>>(
     rt: &R,
     alloc: Global,
@@ -42,8 +42,8 @@ fn joins_and_closes<R: Net<Stream = TcpStream>>(
     Ok(is_done(rt, node, join.as_str())? && is_done(rt, node, close.as_str())?)
 }
 
-/// Begins LRAs at node 1, whose next fact has this number, and closes them: all but the last wait
-/// for the participant that never answers. The other is called none the less.
+/// Begins LRAs at node 1, whose next fact has this number, and closes them. All but the last wait
+/// for the participant that never answers. The other one is called nevertheless.
 pub(crate) fn visit<R: Net<Listener = TcpListener, Stream = TcpStream> + Clock>(
     rt: &R,
     alloc: Global,

@@ -1,6 +1,6 @@
 //! Tests of the server by its public calls: nodes on loopback that answer, call a participant and
-//! pull from one another, and two workers at one desk. They stand here since a crate is proved
-//! twice where it has tests.
+//! pull from one another, and two workers at one desk. They are in a crate of their own because a
+//! crate that has tests is proved twice.
 #![tactic(auto)]
 
 #[cfg(test)]

@@ -1,4 +1,4 @@
-// What tests of running nodes need: journals in memory, an input that ends when it is told, and
+// What tests of running nodes need: journals in memory, an input that ends when a test says so, and
 // requests over sockets.
 
 use lra_server::{Stores, Unopened};
@@ -12,7 +12,7 @@ use std::test::Fail;
 use std::thread;
 use std::time::{Clock, Duration};
 
-/// The most milliseconds that a test waits for something.
+/// The most milliseconds that a test waits for anything.
 pub(crate) const MAX_TURNS: u32 = 20_000;
 
 /// Journals in memory.
@@ -55,17 +55,17 @@ impl<C: Clock> Read for Until<C> {
     }
 }
 
-/// An error where something isn't so.
+/// Fails the test if something isn't so.
 pub(crate) fn needs(is_so: bool, what: &str) -> Result<(), Fail> {
     if is_so { Ok(()) } else { Err(Fail::new(what)) }
 }
 
-/// A port of the loopback interface.
+/// Returns a port of the loopback interface.
 pub(crate) fn address(port: u16) -> SocketAddr {
     SocketAddr::V4(SocketAddrV4::new(Ipv4Addr::LOCALHOST, port))
 }
 
-/// Reads up to the end, and says whether these bytes came.
+/// Reads to the end, and returns whether these bytes arrived.
 fn hears(stream: &mut TcpStream, wanted: &[u8]) -> Result<bool, Fail> {
     let mut place = 0usize;
     let mut piece = [0u8; 256];
@@ -89,7 +89,7 @@ fn hears(stream: &mut TcpStream, wanted: &[u8]) -> Result<bool, Fail> {
     Ok(false)
 }
 
-/// Sends a request to a port, and says whether just these bytes are answered.
+/// Sends a request to a port, and returns whether the answer is exactly these bytes.
 pub(crate) fn answers<R: Net<Stream = TcpStream>>(
     rt: &R,
     port: u16,
@@ -101,8 +101,7 @@ pub(crate) fn answers<R: Net<Stream = TcpStream>>(
     hears(&mut stream, wanted.as_bytes())
 }
 
-/// Sends a request to a port, and says whether it is answered with one of the codes that tell of
-/// success.
+/// Sends a request to a port, and returns whether the answer has one of the codes for success.
 pub(crate) fn is_done<R: Net<Stream = TcpStream>>(
     rt: &R,
     port: u16,
@@ -120,7 +119,7 @@ fn is_up<R: Net<Stream = TcpStream>>(rt: &R, port: u16) -> bool {
     TcpStream::connect(rt, address(port)).is_ok()
 }
 
-/// Whether a request is answered so in the end.
+/// Whether a request is eventually answered so.
 pub(crate) fn comes_to<R: Net<Stream = TcpStream> + Clock>(
     rt: &R,
     port: u16,
@@ -136,7 +135,7 @@ pub(crate) fn comes_to<R: Net<Stream = TcpStream> + Clock>(
     Ok(false)
 }
 
-/// A connection that sends so much and then nothing.
+/// Opens a connection that sends this much and then nothing.
 pub(crate) fn stopped<R: Net<Stream = TcpStream>>(
     rt: &R,
     port: u16,
@@ -147,8 +146,8 @@ pub(crate) fn stopped<R: Net<Stream = TcpStream>>(
     Ok(stream)
 }
 
-/// Takes one connection as a participant does, reads its request's head, and answers that the act
-/// is done. It says whether one came.
+/// Takes one connection as a participant does, reads the head of its request, and answers that the
+/// act is done. Returns whether a connection came.
 pub(crate) fn take_part<R: Clock>(rt: &R, listener: &TcpListener) -> Result<bool, Fail> {
     listener.set_nonblocking(true)?;
     for _turn in 0..MAX_TURNS {

@@ -18,12 +18,12 @@ use std::test::Fail;
 use std::thread::{Threads, join};
 use std::time::Clock;
 
-/// Where the nodes of the first test listen, and its participant.
+/// The ports of the nodes of the first test, and of its participant.
 const PORT: u16 = 18_470;
 
 const PARTICIPANT: u16 = 18_477;
 
-/// The number of node 1's next fact, behind a begin, a join, a close and what was heard.
+/// The number of node 1's next fact, after a begin, a join, a close and the participant's answer.
 const NEXT: u64 = 5;
 
 const BEGIN: &str = "POST /lra HTTP/1.1\r\nHost: p\r\nContent-Length: 2\r\n\r\n{}";
@@ -48,7 +48,8 @@ const STATUS: &str = "GET /lra/00000000-0000-8001-8000-000000000001 HTTP/1.1\r\n
 const CLOSED: &str =
     "HTTP/1.1 200 OK\r\nContent-Type: application/json\r\nContent-Length: 64\r\nConnection: close\r\n\r\n{\"lra\":\"00000000-0000-8001-8000-000000000001\",\"status\":\"Closed\"}";
 
-/// Where the nodes of the group listen that pull from one another as if they were apart.
+/// The port of the first node of the group whose nodes pull from one another as if they were in
+/// processes of their own.
 const APART: u16 = 18_492;
 
 const ACTIVE: &str =
@@ -57,8 +58,8 @@ const ACTIVE: &str =
 const GONE: &str =
     "HTTP/1.1 410 Gone\r\nContent-Type: application/json\r\nContent-Length: 24\r\nConnection: close\r\n\r\n{\"refused\":\"E3 NotHeld\"}";
 
-/// Begins an LRA at node 1, has a participant join, closes it, and waits until node 2 shows it
-/// closed; while four connections say nothing and two have sent half a request.
+/// Begins an LRA at node 1, lets a participant join, closes the LRA, and waits until node 2 shows
+/// it closed, while four connections send nothing and two have sent half a request.
 fn visit<R: Net<Listener = TcpListener, Stream = TcpStream> + Clock>(rt: &R) -> Result<(), Fail> {
     let participant = TcpListener::bind(rt, address(PARTICIPANT))?;
     needs(comes_to(rt, PORT, BEGIN, BEGUN)?, "no LRA was begun")?;
@@ -82,7 +83,7 @@ fn visit<R: Net<Listener = TcpListener, Stream = TcpStream> + Clock>(rt: &R) -> 
     )
 }
 
-/// The same, and then half a request behind which its run ends.
+/// Does the same, and then sends half a request, after which the run of its node ends.
 fn visit_both<R: Net<Listener = TcpListener, Stream = TcpStream> + Clock>(
     rt: &R,
 ) -> Result<(), Fail> {
@@ -90,7 +91,7 @@ fn visit_both<R: Net<Listener = TcpListener, Stream = TcpStream> + Clock>(
     halves::visit(rt, PORT)
 }
 
-/// Two nodes serve until the visit is over.
+/// Runs two nodes until the visit is over.
 fn two_serve<R, L, H>(rt: &R, log: &L, host: H, clock: H, alloc: Global) -> Result<u8, Fail>
 where
     R: Threads + Wait + Clock + Net<Listener = TcpListener, Stream = TcpStream> + Eprint + Sync,
@@ -127,8 +128,8 @@ fn two_nodes_on_loopback(rt: HostRuntime) -> Result<(), Fail> {
     Ok(())
 }
 
-/// Begins an LRA at node 1 of a group, which node 2 shows, and closes it; then it is purged by
-/// itself at both.
+/// Begins an LRA at node 1 of a group, which node 2 shows, and closes it. Then both nodes purge it
+/// on their own.
 fn visit_group<R: Net<Listener = TcpListener, Stream = TcpStream> + Clock>(
     rt: &R,
 ) -> Result<(), Fail> {
@@ -145,13 +146,13 @@ fn visit_group<R: Net<Listener = TcpListener, Stream = TcpStream> + Clock>(
     )
 }
 
-/// Where a node of the group is reached.
+/// Returns how a node of the group is reached.
 fn peer(alloc: Global, port: u16) -> Option<Peer> {
     let host = String::from_str(alloc, "127.0.0.1").ok()?;
     Some(Peer { host, port })
 }
 
-/// Both nodes of the group, in this process, which purge what has ended at once.
+/// Makes both nodes of the group, in this process. They purge what has ended at once.
 fn group(alloc: Global) -> Option<Members>
     ensures { IfSome result (λ members. (1 ≤ vec_len members.peers) × (vec_len members.peers ≤ 8)) }
 {
@@ -203,7 +204,7 @@ where
     serve_members(rt, log, host, alloc, members, stores, input)
 }
 
-/// Two nodes of a group serve until the visit is over.
+/// Runs two nodes of a group until the visit is over.
 fn two_members_serve<R, L, H>(rt: &R, log: &L, host: H, clock: H, alloc: Global) -> Result<u8, Fail>
 where
     R: Threads + Wait + Clock + Net<Listener = TcpListener, Stream = TcpStream> + Eprint + Sync,

@@ -1,11 +1,11 @@
-// Of several causes for the end of a run the weightiest stands, whatever their order.
+// If a run has several causes to end, the weightiest one stands, whatever their order.
 
 use crate::loopback::needs;
 use lra_sockets::{Signal, StopReason};
 use std::sync::Wait;
 use std::test::Fail;
 
-/// The cause that stands where two are told in this order.
+/// Returns the cause that stands after two are given in this order.
 fn stands<R: Wait>(rt: &R, first: StopReason, second: StopReason) -> Option<StopReason> {
     let signal = Signal::new();
     let _first = signal.end(rt, first);
@@ -13,7 +13,7 @@ fn stands<R: Wait>(rt: &R, first: StopReason, second: StopReason) -> Option<Stop
     signal.stop_reason(rt)
 }
 
-/// Whether the weightier of two causes stands, whichever comes first.
+/// Whether the weightier of two causes stands, whichever is given first.
 fn outweighs<R: Wait>(rt: &R, weightier: StopReason, other: StopReason) -> bool {
     stands(rt, weightier, other) == Some(weightier)
         && stands(rt, other, weightier) == Some(weightier)

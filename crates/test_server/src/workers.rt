@@ -1,4 +1,4 @@
-// Two workers at one desk, each held before its first call until the other has come there.
+// Two workers at one desk, each held before its first call until the other has arrived there.
 ghost use Rattle.std.specs.Prelude.{◌≡◌, [], ⊤, Some, false};
 
 use lra_api::Paths;
@@ -17,7 +17,7 @@ use std::thread;
 use std::thread::{Threads, join};
 use std::time::{Clock, Duration};
 
-/// Requests that come one after another.
+/// Requests that arrive one after another.
 #[derive(Drop)]
 struct Given {
     alloc: Global,
@@ -43,8 +43,9 @@ impl Arrivals for Given {
     }
 }
 
-/// Holds each worker before a call until two have come there, 10,000 turns at most. It counts those
-/// who come before a call, those who come behind one, and those who waited in vain.
+/// Holds each worker before a call until two have arrived there, at most 10,000 turns. Counts the
+/// workers that arrive before a call, those that have made one, and those that waited without
+/// success.
 #[derive(Drop)]
 struct Meeting<'a, C: Clock> {
     clock: &'a C,
@@ -83,7 +84,7 @@ const SECOND: [&str; 1] = [
     "GET /lra/00000000-0000-8002-8000-000000000001 HTTP/1.1\r\nHost: p\r\n\r\n",
 ];
 
-/// Has a worker serve these requests.
+/// Lets a worker serve these requests.
 fn serve<J: Run, S: Alter, R: Wait + Clock, G: Gate>(
     rt: &R,
     alloc: Global,
@@ -117,7 +118,7 @@ fn ends_closed<J: Run>(pass: &DeskPass<J>) -> bool {
     receipts.len() == 3 && is_closed(&receipts[2].reply)
 }
 
-/// Two workers serve at a desk, and their receipts are then its trail.
+/// Lets two workers serve at a desk, and checks that their receipts are then its trail.
 fn by_two<J: Run + Send + Sync, S: Alter + Send + Drop, R: Threads + Wait + Clock + Sync>(
     rt: &R,
     alloc: Global,
