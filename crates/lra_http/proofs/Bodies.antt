@@ -7,7 +7,7 @@ use Rattle.lra_http.specs.Faults.{Shows, Stops}
 use Rattle.lra_http.specs.Streams.{GivenBytes, Gives}
 use Rattle.lra_http.proofs.Known.{gives_more}
 
--- a fault of the piece that follows is one of the body
+-- a fault of the piece that follows is a fault of the body
 refuses : (size : ℕ) (body rest : List ℕ) (fault : Fault) → length body < size → RefusesBody 1 rest fault → RefusesBody size (body ++ rest) fault
 refuses size body rest Cut short f = omega (arith, short, f, length-append body rest)
 refuses size body rest ReadFault short f = tt

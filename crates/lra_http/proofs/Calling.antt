@@ -1,4 +1,4 @@
--- Calls of one message, in two parts.
+-- The calls for one message, in two parts.
 use Rattle.std.proofs.Common.{◌≡◌, ℕ, ◌+◌, ◌<◌, ◌≤◌, inl, inr, arith}
 use Rattle.lra_http.specs.declared.fault.Fault.{Fault}
 use Rattle.lra_http.specs.declared.fault.Fault.TheVariants.{Cut, ReadFault, WriteFault, HeadTooLong, BodyTooLong, BadHead, LengthNeeded, NotOffered, NoMemory}
@@ -7,7 +7,8 @@ use Rattle.lra_http.specs.Streams.{Calls, AllWell, HasCause, IsLost, OnReadFault
 pub well_none : (before : ℕ) (old : Calls) → before < 1024 → AllWell 0 before old old
 well_none before old below = record { none_failed = omega arith; few_interrupted = omega (arith, below); few = omega arith }
 
--- the first calls went well, of which the last left so many interrupted ones, and the others follow
+-- the first calls went well, and the last of them left this many interrupted ones; the others
+-- follow
 module _ (first then most before between : ℕ) (old mid new : Calls) (fits : first + then ≤ most) (counted : mid.interrupted + before ≡ old.interrupted + between) (well : AllWell first before old mid) where
   pub well_then : AllWell then between mid new → AllWell most before old new
   well_then next = record {

@@ -1,11 +1,11 @@
--- a whole response that is cut is none any more
+-- a whole response that is cut isn't a response any more
 use Rattle.std.proofs.Common.{◌≡◌, ℕ, ◌+◌, ◌<◌, List, [], ◌∷◌, ◌++◌, length, sym, ◌∙◌, ap, append_assoc, append-nil, length-append, arith, Result, Ok}
 use Rattle.httparse.specs.Grammar.{ResponseHead, ReadsResponse, print_response}
 use Rattle.lra_http.specs.declared.fault.Fault.{Fault}
 use Rattle.lra_http.specs.Responses.{Room, head_room, Skips, HasFinal, IsResponse, HasNoResponse, stated}
 use Rattle.lra_http.proofs.Messages.{unique_final}
 
--- what stands at the start stands there whatever follows
+-- what a text begins with is there whatever follows
 
 reads_more : (input rest more : List ℕ) (h : ResponseHead) → ReadsResponse input h rest → ReadsResponse (input ++ more) h (rest ++ more)
 reads_more input rest more h (valid, text) = (valid, ap (λ (t : List ℕ). t ++ more) text ∙ append_assoc (print_response h) rest more)

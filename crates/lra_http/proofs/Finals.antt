@@ -18,7 +18,7 @@ use Rattle.std.proofs.lemmas.Bool.Decides.{nat_tests}
 use Rattle.lra_http.proofs.Heads.{some_head}
 use Rattle.lra_http.proofs.Interims.{Continues, Reaches, continues_more, behind_none, ends_front, none_front, refuses_front}
 
--- the parser's spans of bytes that are a head
+-- the parser's spans, if bytes are a head
 pub parts_are : (bytes : List ℕ) (headers : List HeaderSpan) (spans : ResponseSpans) (lines : ℕ) → IsHead Response bytes lines
     → IsResponseOf bytes headers spans → IsResponseWithin bytes headers spans → ArePartsOfResponse bytes headers spans
 parts_are bytes headers spans lines (k, valid, e, count) (h, at) within =

@@ -64,7 +64,7 @@ ends_append : (a b : List ℕ) → EndsInEmpty b → EndsInEmpty (a ++ b)
 ends_append a b (prefix, end, e) =
     (a ++ prefix, end, ap (λ (t : List ℕ). a ++ t) e ∙ sym (append_assoc a prefix (line_feed ∷ print_end end)))
 
--- what stands before two pieces doesn't count
+-- this holds whatever text comes before the two pieces
 ends_behind : (front a b : List ℕ) → EndsInEmpty (a ++ b) → EndsInEmpty ((front ++ a) ++ b)
 ends_behind front a b ends = subst EndsInEmpty (sym (append_assoc front a b)) (ends_append front (a ++ b) ends)
 
@@ -91,7 +91,7 @@ pub ends_head : (kind : HeadKind) (text : List ℕ) (lines : ℕ) → IsHead kin
 ends_head Request text lines (h, valid, e, count) = subst EndsInEmpty (sym e) (ends_request h)
 ends_head Response text lines (h, valid, e, count) = subst EndsInEmpty (sym e) (ends_response h)
 
--- so does the test say
+-- the test `ends_empty` says so
 empty_seen : (text : List ℕ) → EndsInEmpty text → ends_empty text ≡ true
 empty_seen text (prefix, lf, e) = rw ((ends_is Decides-eqb text (line_feed ∷ line_feed ∷ []) _ refl).1 prefix e) refl
 empty_seen text (prefix, crlf, e) =
@@ -139,7 +139,7 @@ same_last [] (z ∷ b) x y e = absurd (let n : 1 ≡ length (z ∷ b ++ y ∷ []
 same_last (z ∷ a) [] x y e = absurd (let n : length (z ∷ a ++ x ∷ []) ≡ 1 = ap length e in omega (arith, n, length-append a (x ∷ [])))
 same_last (z ∷ a) (w ∷ b) x y e = same_last a b x y (cc)
 
--- with one byte more nothing stands behind a head
+-- with one byte more, no head is followed by anything
 none_shorter : (kind : HeadKind) (head : List ℕ) (byte : ℕ) → HasNoHead kind head → HasNoShorterHead kind (head ++ byte ∷ [])
 none_shorter kind head byte none = λ text rest lines is same.
     let sizes : length head + 1 ≡ length text + length rest =
@@ -147,11 +147,11 @@ none_shorter kind head byte none = λ text rest lines is same.
     let long : length text ≤ length head → ⊥ = λ le. short_head kind head (byte ∷ []) text rest lines none is same le in
     no_element rest (grind (arith, long, sizes))
 
--- where nothing is a head, nothing stands behind one
+-- if no head is there, no head is followed by anything
 pub none_is_shorter : (kind : HeadKind) (bytes : List ℕ) → HasNoHead kind bytes → HasNoShorterHead kind bytes
 none_is_shorter kind bytes none = λ text rest lines is same. absurd (none_of kind bytes text rest lines none is same)
 
--- a byte behind which no empty line ends doesn't end a head
+-- a byte doesn't end a head unless an empty line ends with it
 pub none_more : (kind : HeadKind) (head items : List ℕ) (byte : ℕ) → items ≡ head ++ byte ∷ [] → HasNoHead kind head
     → (byte ≡ line_feed → ends_empty items ≡ false) → HasNoHead kind items
 none_more kind head items byte e none other = none_from kind items (λ text rest lines is same.
@@ -207,7 +207,7 @@ none_unspaced kind bytes none = none_from kind bytes (λ text rest lines is same
     let clash : true ≡ false = sym some ∙ none in
     absurd (cc))
 
--- a part more
+-- one part more
 pub unspaced_more : (before after : Bool) (head part items : List ℕ) → after ≡ (before || list_any is_space part) → items ≡ head ++ part
     → Unspaced before head → Unspaced after items
 unspaced_more true after head part items is e none = λ off. absurd (let clash : true ≡ false = sym is ∙ off in cc)
@@ -215,7 +215,7 @@ unspaced_more false after head part items is e none = λ off.
     ap (list_any is_space) e ∙ list_any-append is_space head part
     ∙ ap (λ (b : Bool). b || list_any is_space part) (none refl) ∙ (sym is ∙ off)
 
--- ---- a part of a line more
+-- ---- one part of a line more
 
 -- all bytes but the last of those that are taken so far have no head
 pub record AllButOne (kind : HeadKind) (most : ℕ) (items : List ℕ) : Type 0 where
@@ -225,14 +225,14 @@ pub record AllButOne (kind : HeadKind) (most : ℕ) (items : List ℕ) : Type 0 
   pub none : HasNoHead kind front
   pub short : length front ≤ most
 
--- what stands behind the bytes of before
+-- the bytes behind those of before
 pub rest_of : (n : ℕ) (head part items : List ℕ) → n ≡ length head → items ≡ head ++ part → take (length items - n) (drop n items) ≡ part
 rest_of n head part items is e =
     let size : length items ≡ length head + length part = ap length e ∙ length-append head part in
     let rest : drop n items ≡ part = ap (λ k. drop k items) is ∙ ap (drop (length head)) e ∙ drop-append_seam head part in
     ap (take (length items - n)) rest ∙ take_all (length items - n) part (omega (arith, is, size))
 
--- where no byte is a line feed no head ends
+-- if no byte is a line feed, no head ends
 none_within : (kind : HeadKind) (head front : List ℕ) → HasNoHead kind head → All (λ b. b ≢ line_feed) front → HasNoHead kind (head ++ front)
 none_within kind head [] none other = subst (HasNoHead kind) (sym (append-nil head)) none
 none_within kind head (b ∷ front) none other =
@@ -318,7 +318,7 @@ long_head kind most room head items byte e none short (inr (exceeds, over)) = re
   short = let size : length items ≡ length head + 1 = ap length e ∙ length-append head (byte ∷ []) in omega (arith, size, short);
 }
 
--- where the head stops behind these bytes
+-- the head stops after these bytes
 pub stops : (kind : HeadKind) (most room : ℕ) (old new : GivenBytes) (bytes : List ℕ) (fault : Fault) → Gives old new bytes
     → Shows (most + 1) (RefusesHead kind most room) bytes fault → (fault ≡ Cut → FoundEnd new)
     → Stops old new (Shows (most + 1) (RefusesHead kind most room)) fault
@@ -369,7 +369,7 @@ whole_state kind most room bytes state e has =
     whole_by (inl (t, le)) = rw (e, t) (has, le)
     whole_by (inr (f, lt)) = rw (e, f) (inl (lt, inr (has.0, has.1, has.2, has.3, has.4)))
 
--- a part more was given
+-- one part more was given
 pub takes_part : (most : ℕ) (old mid new : GivenBytes) (head part items : List ℕ) → Gives old mid head → IsPart most mid new part
     → items ≡ head ++ part → Gives old new items
 takes_part most old mid new head part items taken next e = rw e (gives_more old mid new head part taken next.gives)

@@ -9,7 +9,7 @@ use Rattle.lra_http.specs.Heads.{HasNoHead, HasNoShorterHead, RefusesHead}
 use Rattle.lra_http.specs.Responses.{Room, head_room, is_interim, is_switch, Skips, bytes_of, lines_of, Behind, Begins, HasFinal, HasNoFinal, IsOfHeads, IsUnfinished, IsHopeless, IsSwitched, IsOver, RefusesHeads}
 use Rattle.lra_http.proofs.Heads.{nothing}
 
--- no test holds and fails
+-- no test both holds and fails
 pub not_both : (b : Bool) → IsTrue b → IsFalse b → ⊥
 not_both b t f = let e : true ≡ false = sym t ∙ f in absurd (cc)
 
@@ -22,7 +22,7 @@ pub record Interim (room left : Room) (input middle : List ℕ) : Type 0 where
   pub bytes : length (print_response head) + left.bytes ≡ room.bytes
   pub lines : length head.fields + left.lines ≡ room.lines
 
--- what holds behind the heads of what follows holds behind those of the input
+-- what holds after the heads of what follows holds after those of the input
 pub behind_more : (room left : Room) (input middle : List ℕ) (P : Room → List ℕ → Type 0) → Interim room left input middle
     → Behind left P middle → Behind room P input
 behind_more room left input middle P i b = record {
@@ -35,7 +35,7 @@ behind_more room left input middle P i b = record {
   holds = b.holds;
 }
 
--- what holds at the start holds behind no head
+-- what holds at the start holds after no heads
 pub behind_none : (room : Room) (input : List ℕ) (P : Room → List ℕ → Type 0) → P room input → Behind room P input
 behind_none room input P h = record { skipped = []; middle = input; left = room; skips = refl; bytes = omega arith; lines = omega arith; holds = h }
 
@@ -69,7 +69,7 @@ final_less room left input middle h rest i (b, final) =
 none_more : (room left : Room) (input middle : List ℕ) → Interim room left input middle → HasNoFinal left middle → HasNoFinal room input
 none_more room left input middle i none = λ h rest has. none h rest (final_less room left input middle h rest i has)
 
--- a fault of what follows an interim head is one of the input
+-- a fault of what follows an interim head is a fault of the input
 pub refuses_more : (room left : Room) (input middle : List ℕ) → Interim room left input middle
     → (fault : Fault) → RefusesHeads left middle fault → RefusesHeads room input fault
 refuses_more room left input middle i Cut (none, b) =
@@ -113,15 +113,15 @@ prefix room input h rest (j ∷ skipped) end q (next, reads, interim, plain, ski
   };
 }
 
--- one with a final head begins with a head
+-- an input with a final head begins with a head
 pub front_of : (room : Room) (input : List ℕ) (h : ResponseHead) (rest : List ℕ) → HasFinal room input h rest → Front room input
 front_of room input h rest (b, final) = prefix room input h rest b.skipped b.middle b.left b.skips b.bytes b.lines b.holds
 
--- where no head stands at the start, no final one does
+-- if no head is at the start, there is no final head
 pub none_front : (room : Room) (input : List ℕ) → HasNoHead Response input → HasNoFinal room input
 none_front room input none = λ h rest has. let f = front_of room input h rest has in none f.head f.rest f.begins.reads
 
--- where nothing stands behind a head at the start, nothing does behind the final one
+-- if nothing follows a head at the start, nothing follows the final head
 ends_list : (input : List ℕ) (h : ResponseHead) (rest : List ℕ) → HasNoShorterHead Response input
     → (heads : List ResponseHead) (end : List ℕ) (q : Room) → Skips heads input end → Begins h rest q end → rest ≡ []
 ends_list input h rest none [] end q skips begins =
@@ -135,7 +135,7 @@ ends_list input h rest none (j ∷ heads) end q (next, reads, interim, plain, sk
 pub ends_front : (room : Room) (input : List ℕ) → HasNoShorterHead Response input → IsOfHeads room input
 ends_front room input none = λ h rest has. ends_list input h rest none has.0.skipped has.0.middle has.0.left has.0.skips has.0.holds
 
--- a fault of the head at the start is one of the heads
+-- a fault of the head at the start is a fault of the heads
 pub refuses_front : (room : Room) (input : List ℕ) (fault : Fault) → RefusesHead Response room.bytes room.lines input fault → RefusesHeads room input fault
 refuses_front room input Cut (none, may, short) = (none_front room input none, behind_none room input IsUnfinished (none, may, short))
 refuses_front room input BadHead h = inl (behind_none room input IsHopeless h)
@@ -154,7 +154,7 @@ refuses_front room input WriteFault h = absurd h
 
 -- ---- what is left after some heads
 
--- what is known of what is left is known of the input
+-- what is known about what is left is known about the input
 pub record Continues (left : Room) (input middle : List ℕ) : Type 0 where
   pub refuses : (fault : Fault) → RefusesHeads left middle fault → RefusesHeads head_room input fault
   pub begins : (h : ResponseHead) (rest : List ℕ) → HasFinal left middle h rest → HasFinal head_room input h rest

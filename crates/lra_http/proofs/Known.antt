@@ -36,7 +36,7 @@ takes_slice old mid new i n bs p q =
     let rest : take (length bs - i) (drop i bs) ≡ drop i bs = take_all (length bs - i) (drop i bs) (omega (arith, length-drop i bs)) in
     rw (take-add i n bs) (takes_more old mid new (take i bs) (take n (drop i bs)) p (rw rest at q))
 
--- what was taken so far is a prefix, where a call took nothing
+-- if a call took nothing, what was taken so far is a prefix
 pub part_kept : (old mid new : TakenBytes) (n : ℕ) (bs : List ℕ) → Takes old mid (take n bs) → Takes mid new [] → TakesPart old new bs
 part_kept old mid new n bs p q =
     (take n bs, drop n bs, sym (take-append-drop n bs), rw (sym (append-nil (take n bs))) (takes_more old mid new (take n bs) [] p q))

@@ -1,4 +1,4 @@
--- What was given is what was left before, where that is known.
+-- What was given is what was left before, if that is known.
 use Rattle.std.proofs.Common.{◌≡◌, ℕ, ◌⊎◌, List, [], ◌++◌, sym, ◌∙◌, ap, refl, append_assoc, append-nil, Option, Some, None, IfSome, subst}
 use Rattle.std.specs.Io.KnownBytes.{Consumes, IsAtEnd}
 use Rattle.httparse.specs.Grammar.{RequestHead, ResponseHead, print_request}
@@ -44,7 +44,7 @@ pub response_found : (limit : ℕ) (old new : GivenBytes) (fault : Fault) → St
 response_found limit old new fault s =
     weaker old.left _ _ (λ input refuses h body rest whole. no_response_fault limit input fault h body rest refuses whole) (response_refused limit old new fault s)
 
--- ---- what is taken stands at the start of what was left
+-- ---- what is taken is what the rest began with
 
 taken_off : (Stands : List ℕ → List ℕ → Type 0) (left after : Option (List ℕ)) (bytes : List ℕ) → Consumes left after bytes
     → ((rest : List ℕ) → Stands (bytes ++ rest) rest) → IfSome left (λ input. (rest : List ℕ) × Stands input rest × (after ≡ Some rest))

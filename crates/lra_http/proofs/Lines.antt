@@ -3,7 +3,7 @@ use Rattle.std.proofs.Common.{◌≡◌, ℕ, ◌≤◌, List, ◌++◌, length,
 use Rattle.std.proofs.Math.Seq.{take-append_seam}
 use Rattle.std.proofs.lemmas.List.{length-take-le, length-take}
 
--- a prefix of some bytes is no longer than they
+-- a prefix of some bytes is no longer than the bytes
 pub within : (most count : ℕ) (bytes : List ℕ) → count ≤ length (take most bytes) → count ≤ length bytes
 within most count bytes le = omega (arith, le, length-take most bytes)
 

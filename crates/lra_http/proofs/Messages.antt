@@ -20,7 +20,7 @@ use Rattle.lra_http.proofs.Interims.{not_both, Interim, final_less, front_of}
 
 -- ---- an input has one final head
 
--- behind heads that may be skipped, the final head is that of the input
+-- after heads that may be skipped, the final head is that of the input
 meet : (h : ResponseHead) (rest : List ℕ) (skipped : List ResponseHead) (end : List ℕ) (left room : Room) (input : List ℕ) → Skips skipped input end
     → bytes_of skipped + left.bytes ≡ room.bytes → lines_of skipped + left.lines ≡ room.lines → HasFinal room input h rest → HasFinal left end h rest
 meet h rest [] end left room input skips bytes lines (b, final) = (
@@ -47,7 +47,7 @@ meet h rest (i ∷ skipped) end left room input (next, reads, interim, plain, sk
     } in
     meet h rest skipped end left after next skips refl refl (final_less room after input next h rest here has)
 
--- what holds behind some heads holds beside the final head
+-- what holds after some heads holds together with the final head
 record Beside (P : Room → List ℕ → Type 0) (h : ResponseHead) (rest : List ℕ) : Type 0 where
   left : Room
   middle : List ℕ
@@ -243,7 +243,7 @@ exit_heads limit old new fault s = record {
   ended = s.ended;
 }
 
--- where the fields are at fault
+-- if the fields are at fault
 
 no_cut : (fault : Fault) → IsFieldFault fault → fault ≡ Cut → ⊥
 no_cut fault f e = subst IsFieldFault e f
@@ -276,7 +276,7 @@ exit_fields limit old new bytes looked headers spans fault (given, gives, f) sam
       ended = λ cut. absurd (no_cut fault is cut);
     }
 
--- where the body is
+-- if the body is at fault
 
 body_spent : (limit size : ℕ) (bytes rest : List ℕ) (fault : Fault) → RefusesBody size (rest ++ []) fault → length bytes ≤ 16384 → length rest ≤ size → size ≤ limit
     → Spends limit (bytes ++ rest) fault
@@ -308,7 +308,7 @@ exit_body limit old mid new bytes looked headers spans size fault (given, gives,
       ended = s.ended;
     }
 
--- where memory runs out behind the body
+-- if memory runs out behind the body
 pub exit_memory : (limit : ℕ) (old mid new : GivenBytes) (bytes items : List ℕ) (size : ℕ) (fault : Fault)
     → GivesWhat old mid (λ given. IsFinalRead given bytes) → size ≤ limit
     → (length items ≡ size) × Gives mid new items → fault ≡ NoMemory → Stops old new (ShowsNoResponse limit) fault
@@ -364,7 +364,7 @@ heads_show limit bytes fault is = record {
 cut_unfinished : (bytes : List ℕ) (fault : Fault) → RefusesHeads head_room bytes fault → fault ≡ Cut → HasNoFinal head_room bytes
 cut_unfinished bytes fault refuses e = let cut : RefusesHeads head_room bytes Cut = subst (RefusesHeads head_room bytes) e refuses in cut.0
 
--- where the heads are refused, nothing stands behind a final one
+-- if the heads are refused, nothing follows a final head
 of_heads : (bytes : List ℕ) (fault : Fault) → RefusesHeads head_room bytes fault → (fault ≡ ReadFault → HasNoFinal head_room bytes)
     → (fault ≡ NoMemory → IsOfHeads head_room bytes) → IsOfHeads head_room bytes
 of_heads bytes Cut (none, b) lost memory = λ h rest has. absurd (none h rest has)
@@ -378,7 +378,7 @@ of_heads bytes LengthNeeded r lost memory = absurd r
 of_heads bytes NotOffered r lost memory = absurd r
 of_heads bytes WriteFault r lost memory = absurd r
 
--- what is so of the bytes that were given is so of these
+-- what holds for the bytes that were given holds for these
 of_given : (old new : GivenBytes) (bytes : List ℕ) (Is : List ℕ → Type 0) → Gives old new bytes → GivesWhat old new Is → Is bytes
 of_given old new bytes Is p (given, q, is) = subst Is (append_cancel_left old.given given bytes (sym q.given ∙ p.given)) is
 

@@ -19,7 +19,7 @@ use Rattle.lra_http.specs.HeadFields.{is_number, length_in}
 use Rattle.lra_http.specs.MessageTexts.{field_line, field_lines, line_end}
 use Rattle.lra_http.specs.WholeMessages.{IsPlain}
 
--- visible: no white space, no control byte, and ASCII alone
+-- visible: no white space, no control byte, and only ASCII
 abbrev pub is_visible : ℕ → Bool
 is_visible b = nat_lt 32 b && nat_lt b 127
 

@@ -17,7 +17,7 @@ use Rattle.lra_http.specs.Streams.{GivenBytes, Gives, GivesWhat}
 use Rattle.lra_http.proofs.Known.{gives_more}
 use Rattle.lra_http.specs.Requests.{stated, HasHead, HasFault, HasNoRequest, IsRequest, IsRequestMessage, IsFaultyHead, RefusesRequest, ShowsNoRequest, Spends, ArePartsOfRequest}
 
--- the parser's spans of bytes that are a head
+-- the parser's spans, if bytes are a head
 pub parts_are : (bytes : List ℕ) (headers : List HeaderSpan) (spans : RequestSpans) (lines : ℕ) → IsHead Request bytes lines
     → IsRequestOf bytes headers spans → IsRequestWithin bytes headers spans → ArePartsOfRequest bytes headers spans
 parts_are bytes headers spans lines (k, valid, e, count) (h, at) within =
@@ -137,7 +137,7 @@ first_parts limit bytes more headers spans read p =
       fields = p.at.fields;
     }
 
--- where the head is at fault
+-- if the head is at fault
 
 head_spent : (limit : ℕ) (bytes : List ℕ) (fault : Fault) → RefusesHead Request 16384 64 (bytes ++ []) fault → length bytes ≤ 16385
     → (fault ≡ Cut → length bytes ≤ 16384) → Spends limit bytes fault
@@ -170,7 +170,7 @@ exit_head limit old new fault s =
       ended = s.ended;
     }
 
--- where its fields are
+-- if its fields are at fault
 
 no_cut : (fault : Fault) → IsFieldFault fault → fault ≡ Cut → ⊥
 no_cut fault f e = subst IsFieldFault e f
@@ -208,7 +208,7 @@ exit_fields limit old new bytes looked headers spans fault (gives, read) same p 
       ended = λ cut. absurd (no_cut fault is cut);
     }
 
--- where the body is
+-- if the body is at fault
 
 body_spent : (limit size : ℕ) (bytes rest : List ℕ) (fault : Fault) → RefusesBody size (rest ++ []) fault → length bytes ≤ 16384 → length rest ≤ size → size ≤ limit
     → Spends limit (bytes ++ rest) fault
@@ -241,7 +241,7 @@ exit_body limit old mid new bytes looked headers spans size fault (gives, read) 
       ended = s.ended;
     }
 
--- where memory runs out behind the body
+-- if memory runs out behind the body
 pub exit_memory : (limit : ℕ) (old mid new : GivenBytes) (bytes items : List ℕ) (size : ℕ) (fault : Fault)
     → Gives old mid bytes × IsHeadWithin Request 16384 64 bytes → size ≤ limit
     → (length items ≡ size) × Gives mid new items → fault ≡ NoMemory → Stops old new (ShowsNoRequest limit) fault

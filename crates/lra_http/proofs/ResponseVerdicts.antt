@@ -10,7 +10,8 @@ use Rattle.lra_http.specs.Responses.{Room, head_room, is_interim, is_switch, Beh
 use Rattle.lra_http.proofs.Messages.{unique_final}
 use Rattle.lra_http.proofs.Stops.{Halts, one_place, IsLengthy, unfinished_halts, hopeless_halts, switched_halts, lengthy_halts, final_halts, never_at, long_at, unfinished_or_hopeless, unfinished_or_lengthy, hopeless_or_lengthy}
 
--- the fault that what a final head states comes to: of a length, that the input ends in the body
+-- the fault that a final head leads to: if it states a length, the fault is that the input ends in
+-- the body
 abbrev pub Answers : Result ℕ Fault → Fault → Type 0
 Answers (Ok size) fault = fault ≡ Cut
 Answers (Err cause) fault = fault ≡ cause

@@ -20,7 +20,7 @@ shorter a b rest more e short =
 
 -- ---- what stops
 
--- it stands at no head that is skipped
+-- at that place there is no head that is skipped
 abbrev pub Halts : (Room → List ℕ → Type 0) → Type 0
 Halts P =
     (room : Room) (bytes : List ℕ) (h : ResponseHead) (rest : List ℕ) → P room bytes → ReadsResponse bytes h rest
@@ -69,7 +69,7 @@ final_halts k more final room bytes h rest begins reads fits interim plain =
 
 -- ---- one place
 
--- two things that hold of one place
+-- two things that hold at one place
 pub record Both (P Q : Room → List ℕ → Type 0) : Type 0 where
   pub room : Room
   pub bytes : List ℕ
@@ -98,8 +98,8 @@ walk P Q hp hq input (i ∷ xs) (j ∷ ys) m n p q (next, reads, interim, plain,
     let count : length i.fields ≡ length j.fields = ap (λ (k : ResponseHead). length k.fields) (sym same.0) in
     walk P Q hp hq next xs ys m n p q here (subst (λ (t : List ℕ). Skips ys t n) same.1 there) (omega (arith, size, bytes)) (omega (arith, count, lines)) at to
 
--- what stops behind skipped heads stops at one place
--- (so "an input has one fault" is a line for each pair of causes)
+-- what stops after skipped heads stops at one place (so "an input has one fault" takes one line for
+-- each pair of causes)
 pub one_place : (P Q : Room → List ℕ → Type 0) → Halts P → Halts Q → (room : Room) (input : List ℕ) → Behind room P input → Behind room Q input → Both P Q
 one_place P Q hp hq room input a b =
     let ab = a.bytes in let bb = b.bytes in let al = a.lines in let bl = b.lines in

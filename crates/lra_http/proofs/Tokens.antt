@@ -1,4 +1,4 @@
--- A token of httparse is one of http.
+-- A token of httparse is a token of http.
 use Rattle.std.proofs.Common.{◌≡◌, ℕ, List, refl, subst, IsTrue}
 use Rattle.httparse.specs.Grammar.{IsToken as IsParsedToken, is_token_byte as is_parsed_byte}
 use Rattle.http.specs.Token.{IsToken, is_token_byte}

@@ -38,7 +38,7 @@ values_more name bytes headers i d b below e =
     ∙ ap (values name) (map-append (header_bytes bytes) (take i headers) (get_or headers i d ∷ []))
     ∙ values_push name (map (header_bytes bytes) (take i headers)) (header_bytes bytes (get_or headers i d)) b e
 
--- a name that is the same but for case, and one that isn't
+-- a name that is the same except for its case, and one that isn't
 pub named : (name : List ℕ) (field : List ℕ × List ℕ) → map to_ascii_lowercase field.0 ≡ map to_ascii_lowercase name → is_named name field ≡ true
 named name field e = (bytes_eq-Decides _ _).1 e
 
