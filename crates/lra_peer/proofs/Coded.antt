@@ -1,4 +1,4 @@
--- Reading and encoding a pull's body go together.
+-- Reading a pull's body is the inverse of encoding it.
 use Rattle.std.proofs.Common.{◌≡◌, ◌∙◌, ℕ, zero, suc, ◌+◌, ◌-◌, ◌*◌, ◌%◌, ◌^◌, ◌<◌, ◌≤◌, Bool, true, false, ◌&&◌, ◌==◌, cond, ltb, List, [], ◌∷◌, ◌++◌, length, take, drop, Result, Ok, Err, refl, sym, ap, append_assoc, subst, arith, slice_set, inl, inr, nat_le}
 use Rattle.std.specs.Prelude.{IfOk}
 use Rattle.std.specs.Int.{w64, from_be_bytes, to_be_bytes}

@@ -1,4 +1,4 @@
--- What was given has to do with what comes of a pull.
+-- The result of a pull depends on what was given.
 use Rattle.std.proofs.Common.{◌≡◌, ◌≢◌, ◌∙◌, ◌⊎◌, ℕ, ◌+◌, List, [], ◌++◌, Option, None, Some, Result, Ok, Err, IfErr, IfOk, IfSome, MatchResult, OnErr, OnOk, ◌≤◌, ap, append-nil, arith, inl, inr, length, refl, subst, sym, take}
 use Rattle.std.specs.Prelude.{⊤, Bool, true, false, ◌==◌, if◌then◌else◌}
 use Rattle.std.specs.Io.KnownBytes.{Consumes}
@@ -36,7 +36,7 @@ sent old new before after whole text is taken well = (
   subst (λ (t : List ℕ). AllWell (length t + 1) 0 before after) is well,
 )
 
--- ---- what was written, by how the write came out
+-- ---- what was written, by the result of the write
 
 pub sent_of : (old new : TakenBytes) (before after : Calls) (whole text : List ℕ) (Unchanged : Type 0) (result : Result ⊤ HttpFault) → whole ≡ text
     → OnOk result (Takes old new whole × IsFlushed new) → Writes (length whole + 1) before after Unchanged result → OnOk result (IsSent old new before after text)
@@ -74,7 +74,7 @@ sized n = Ok n
 ok_size : (a b : ℕ) → sized a ≡ sized b → a ≡ b
 ok_size a b e = cc
 
--- a whole response stands at the start of an input
+-- an input begins with a whole response
 stands_in : (input bytes rest body : List ℕ) (h : ResponseHead) → input ≡ bytes ++ rest → IsResponse head_room max_frame_bytes bytes h body []
     → IsResponse head_room max_frame_bytes input h body rest
 stands_in input bytes rest body h split whole =
@@ -95,7 +95,7 @@ whole_answer heads body size h len = record {
   status_is = sym h.status;
 }
 
--- it lies in the status: no cut, and each read came out well
+-- the fault is in the status: nothing was cut, and each read succeeded
 no_cut : (is : Bool) → (if is then Misdirected else Fault NotOffered) ≡ Fault Cut → ⊥
 no_cut true e = cc
 no_cut false e = cc
@@ -149,7 +149,7 @@ head_calls old new fault h = fault_then 0 16385 pull_reads 0 0 old old new (omeg
 head_well : (old new : Calls) → AllWell 16385 0 old new → AllWell pull_reads 0 old new
 head_well old new h = well_then 0 16385 pull_reads 0 0 old old new (omega arith) (omega arith) (well_none 0 old (omega arith)) h
 
--- where an answer with a frame stands at the start of the input
+-- the input begins with an answer that has a frame
 found_body : (left after : Option (List ℕ)) (given : List ℕ) (status size : ℕ) (result : Result Frame PullError) → Consumes left after given → IsHeadRead max_frame_bytes given status size
     → (status ≡ 200 → (read : Result Frame Stop) × (result ≡ told_by read) × IfSome after (λ ahead. Says read (read_of size (take size ahead))))
     → IfSome left (λ input. IsFound input result)
@@ -235,7 +235,7 @@ module _ {R : Type 0} (stream : R → GivenBytes) (calls : R → Calls) (r0 r1 r
   pub answer_found : IfSome (stream r0).left (λ input. IsFound input result)
   answer_found = found_body (stream r0).left (stream r1).left head.0 status size result head.1.left head.2 (λ ok. let b = body ok in (b.0, b.1, b.2.known))
 
--- ---- where the heads tell why there is no delta
+-- ---- the heads say why there is no delta
 
 shown : (old new : GivenBytes) (fault : HttpFault) → Stops old new (ShowsNoHead max_frame_bytes) fault → Stops old new (ShowsNoResponse max_frame_bytes) fault
 shown old new fault s = record { bytes = s.bytes; gives = s.gives; is = s.is.shows; ended = s.ended }

@@ -10,7 +10,7 @@ use Rattle.lra_peer.specs.Texts.{pull_fields, pull_request, pull_text}
 grouped : (d e c l b : List ℕ) → ((((d ++ e) ++ c) ++ l) ++ b) ≡ d ++ (e ++ (c ++ (l ++ b)))
 grouped d e c l b = append_assoc ((d ++ e) ++ c) l b ∙ append_assoc (d ++ e) c (l ++ b) ∙ append_assoc d e (c ++ (l ++ b))
 
--- what stands between the query and the length
+-- what comes between the query and the length
 abbrev before_length : List ℕ → List ℕ
 before_length rest =
     codes " HTTP/1.1" ++ (line_end
@@ -18,7 +18,7 @@ before_length rest =
     ++ (codes "Content-Type: application/octet-stream" ++ (line_end
     ++ (codes "Content-Length: " ++ rest))))))
 
--- what stands behind the line of the request, up to the body
+-- what follows the line of the request, up to the body
 abbrev head_behind : List ℕ → List ℕ
 head_behind front = host_line (codes "peer") ++ (field_lines (pull_fields (1 + 8 * length front)) ++ line_end)
 

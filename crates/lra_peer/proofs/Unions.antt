@@ -15,7 +15,7 @@ use Rattle.lra_peer.specs.PullBodies.{IsAsked, asked, pull_body}
 use Rattle.lra_peer.specs.Serving.{Serves}
 use Rattle.lra_peer.proofs.Coded.{asked_again}
 
--- what is served to one that asks from a front
+-- what is served to a node that asks from a front
 served_is : (other : View) (own front : List ℕ) (frame : Frame) → length own ≡ length other.front → length own ≤ 8 → IsAsked (length own) front
     → Serves other (asked (length other.front) (pull_body front)) (Ok frame) → frame ≡ frame_of other (meet_fronts front other.front)
 served_is other own front frame nodes few is serves =

@@ -71,14 +71,14 @@ length_is limit n size fits =
 body_length : (front : List ℕ) → 1 + 8 * length front ≡ length (pull_body front)
 body_length front = omega (arith, length-vector front)
 
--- what stands between the line of the request and the length
+-- what comes between the line of the request and the length
 abbrev behind_line : List ℕ → List ℕ
 behind_line rest =
     codes "Host: peer" ++ (line_end
     ++ (codes "Content-Type: application/octet-stream" ++ (line_end
     ++ (codes "Content-Length: " ++ rest))))
 
--- the head has few bytes besides the query
+-- apart from the query, the head has few bytes
 head_short : (query digits : List ℕ) → length query ≤ 16000 → length digits ≤ 2
     → length (codes "POST /peer/pull" ++ ((query ++ (codes " HTTP/1.1" ++ line_end)) ++ behind_line (((digits ++ line_end) ++ (codes "Connection: close" ++ line_end)) ++ line_end))) ≤ 16384
 head_short query digits low few =

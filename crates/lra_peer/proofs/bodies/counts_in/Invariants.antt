@@ -2,7 +2,7 @@ use Rattle.std.proofs.Common.{◌≡◌, ◌++◌, ◌≤◌, ◌*◌, ◌-◌, 
 use Rattle.lra_peer.specs.PullBodies.{counts_in}
 use Rattle.lra_peer.proofs.bodies.counts_in.Given as goal
 
--- the counts so far, and those of the rest
+-- the counts so far, followed by those of the rest
 abbrev pub invariant-loop-place : goal.invariant-loop-place
 invariant-loop-place l = record {
   all : length l.counts ≡ 8;
