@@ -1,4 +1,4 @@
--- what came of a call
+-- the result of a call
 use Rattle.std.proofs.Common.{◌≡◌, ◌≢◌, ◌⊎◌, inl, inr, ℕ, List, refl, Option, Some, None, IfSome}
 use Rattle.lra_http.specs.declared.fault.Fault.{Fault}
 use Rattle.lra_http.specs.declared.fault.Fault.TheVariants.{Cut, ReadFault, WriteFault, HeadTooLong, BodyTooLong, BadHead, LengthNeeded, NotOffered, NoMemory}
@@ -8,7 +8,8 @@ use Rattle.lra_http.proofs.Left.{response_found}
 use Rattle.lra_http.specs.Bodies.{max_body_bytes}
 use Rattle.lra_callback.specs.OneCall.{IsUnanswered, answer_reads}
 
--- where a whole message P is refused for these two faults alone, any other fault tells that there is none
+-- if a whole message P is refused only for these two faults, any other fault shows that there is
+-- none
 none_there : {H : Type 0} (P : List ℕ → H → List ℕ → List ℕ → Type 0) (old : Option (List ℕ)) (fault : Fault)
     → IfSome old (λ input. (h : H) (body rest : List ℕ) → P input h body rest → (fault ≡ ReadFault) ⊎ (fault ≡ NoMemory))
     → (fault ≡ ReadFault → ⊥) → (fault ≡ NoMemory → ⊥) → IfSome old (λ input. (h : H) (body rest : List ℕ) → P input h body rest → ⊥)

@@ -1,4 +1,4 @@
--- of a participant of which something is due there is a duty
+-- there is a duty for a participant to whom something is due
 use Rattle.std.proofs.Common.{◌≡◌, ◌⊎◌, inl, inr, ℕ, List, refl, Bool, true, false, cond}
 use Rattle.lra_id.specs.Ids.{Id}
 use Rattle.lra_id.specs.declared.outcome.Act.{Act}
@@ -17,7 +17,7 @@ use Rattle.lra_callback.specs.CallDuties.{IsDuty, asks_status}
 use Rattle.lra_callback.specs.Errands.{due_by, duty_from, kind_from, kind_of_act}
 use Rattle.lra_callback.proofs.Picked.{there}
 
--- it is called so, or asked for its status
+-- the participant is called so, or asked for its status
 pub record IsCalled (home : ℕ) (S : List Fact) (l : Id) (kind : Kind) : Type 0 where
   pub call : Duty
   pub duty : IsDuty home S call

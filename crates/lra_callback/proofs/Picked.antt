@@ -76,7 +76,7 @@ act_is (Some Cancel) CompensateAct e = refl
 both : (a b : Bool) → a ≡ true → b ≡ true → (a && b) ≡ true
 both a b e f = rw (e, f) refl
 
--- what is due is owed by the call that is made of it
+-- the call for what is due is the call that is owed
 owed_so : (S : List Fact) (errand : Errand) (d : Due) (act : Act) → due_by errand S d.lra d.member ≡ true → act_from S errand d ≡ Some act → is_owed S (kind_from S errand d) act d.lra d.member ≡ true
 owed_so S Release d act due wanted = both (is_forget_duty S d.lra d.member) _ due (wanted_act (want S d.lra) act wanted)
 owed_so S Tell d act due wanted = both (is_after_duty S d.lra d.member) _ due (wanted_act (want S d.lra) act wanted)
@@ -104,7 +104,7 @@ errand_so S (Call a) d act wanted = subst (λ (b : Act). errand_of (kind_from S 
     by CompleteAct false = refl
     by CompensateAct false = refl
 
--- what is made of a participant of which something is due is a duty
+-- what is made for a participant to whom something is due is a duty
 pub there : (home : ℕ) (S : List Fact) (errand : Errand) (d : Due) → IsDueAt home S (due_by errand) d → IsOn home S errand (duty_from S errand d)
 there home S errand d due =
     record {
@@ -200,7 +200,7 @@ same_turn home S errand x y a b before =
     by Release p q f = rw (p, q, f) refl
     by Tell p q f = rw (p, q, f) refl
 
--- those of one errand, and of all
+-- the duties of one errand, and of all errands
 on_errand : (home : ℕ) (S : List Fact) (errand : Errand) (dues : List Due) → AreAll (IsDueAt home S (due_by errand)) (before_by errand S) dues → AreAll (IsOn home S errand) (comes_first S) (map (duty_from S errand) dues)
 on_errand home S errand dues h =
     all_map (duty_from S errand) (IsDueAt home S (due_by errand)) (IsOn home S errand) (before_by errand S) (comes_first S) dues

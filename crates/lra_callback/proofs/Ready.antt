@@ -1,4 +1,4 @@
--- what is made of a participant of which something is due
+-- what is made for a participant to whom something is due
 use Rattle.std.proofs.Common.{◌≡◌, ◌&&◌, ◌∙◌, ℕ, List, [], refl, sym, ap, Bool, true, false, cond, Option, Some, None, is_some}
 use mathlib.Core.Bool.{not}
 use Rattle.std.specs.List.{list_any}
@@ -40,7 +40,7 @@ some_of : {X : Type 0} (o : Option X) → is_some o ≡ true → (x : X) × (o �
 some_of None e = absurd cc
 some_of (Some x) e = (x, refl)
 
--- what is due is due of a participant
+-- whatever is due is due to a participant
 joins : (S : List Fact) (errand : Errand) (l : Id) (m : ℕ) → due_by errand S l m ≡ true → is_participant S l m ≡ true
 joins S (Call CompleteAct) l m e = and_left (is_participant S l m) _ e
 joins S Release l m e = and_left (is_participant S l m) _ e
@@ -54,12 +54,12 @@ joins S (Call CompensateAct) l m e = by (topmost_cancelled S l) e
     by None f = absurd cc
     by (Some a) f = and_left (is_participant S l m) (rest a) f
 
--- what is asked for its status has a link for that
+-- a participant that is asked for its status has a link for that
 asked : (S : List Fact) (l : Id) (m : ℕ) (act : Act) (links : Links) → links_of S l m ≡ Some links → asks_status S l m act ≡ true → is_some links.status ≡ true
 asked S l m act links joined e =
     sym (ap (λ o. option_map_or (λ (given : Links). is_some given.status) o false) joined) ∙ and_right (is_busy (heard S l m act)) _ e
 
--- one that is to complete has a link for that
+-- a participant that is to complete has a link for that
 completes : (S : List Fact) (l : Id) (m : ℕ) (links : Links) → links_of S l m ≡ Some links → is_complete_duty S l m ≡ true → is_some links.complete ≡ true
 completes S l m links joined e = by (want S l) (sym (ap (λ o. option_map_or (λ given. demands (want S l) given CompleteAct) o false) joined) ∙ and_left (is_demanded S l m CompleteAct) _ (and_right (is_participant S l m) _ e))
   where
@@ -68,7 +68,7 @@ completes S l m links joined e = by (want S l) (sym (ap (λ o. option_map_or (λ
     by (Some Close) f = f
     by (Some Cancel) f = absurd cc
 
--- one that is to compensate has a link for that
+-- a participant that is to compensate has a link for that
 compensates : (S : List Fact) (l : Id) (m : ℕ) (links : Links) → links_of S l m ≡ Some links → is_compensation_due S l m ≡ true → is_some links.compensate ≡ true
 compensates S l m links joined e = by (topmost_cancelled S l) e
   where
@@ -82,7 +82,7 @@ compensates S l m links joined e = by (topmost_cancelled S l) e
 hearing : (S : List Fact) (l : Id) (m : ℕ) (links : Links) → links_of S l m ≡ Some links → is_after_duty S l m ≡ true → owes_after S l m links ≡ true
 hearing S l m links joined e = sym (ap (λ o. option_map_or (owes_after S l m) o false) joined) ∙ and_right (is_participant S l m) _ e
 
--- of one that hears of the end something is wanted
+-- if a participant is notified of the end, its LRA wants something
 hears : (S : List Fact) (l : Id) (m : ℕ) (links : Links) → owes_after S l m links ≡ true → (act : Act) × (act_wanted (want S l) ≡ Some act)
 hears S l m links e = by (want S l) (and_left (is_some (want S l)) _ (and_left (is_ended S l) _ (and_left (is_at_end S l) _ e)))
   where
@@ -94,7 +94,7 @@ hears S l m links e = by (want S l) (and_left (is_some (want S l)) _ (and_left (
 owing : (S : List Fact) (l : Id) (m : ℕ) (links : Links) → links_of S l m ≡ Some links → is_forget_duty S l m ≡ true → owes_forget S l m links ≡ true
 owing S l m links joined e = sym (ap (λ o. option_map_or (owes_forget S l m) o false) joined) ∙ and_right (is_participant S l m) _ e
 
--- of one that is to forget something is wanted
+-- if a participant is to forget, its LRA wants something
 forgets : (S : List Fact) (l : Id) (m : ℕ) (links : Links) → owes_forget S l m links ≡ true → (act : Act) × (act_wanted (want S l) ≡ Some act)
 forgets S l m links e =
     let rest = and_right (is_some links.forget) _ (and_right (is_over S l) _ e) in
@@ -143,14 +143,14 @@ ready home S errand d due =
       given = link.1;
     }
 
--- what is kept of it
+-- what the view keeps of the participant
 pub participant_is : (home : ℕ) (S : List Fact) (errand : Errand) (d : Due) (due : IsDueAt home S (due_by errand) d) (r : IsReady S errand d) → participant_of S d.lra d.member ≡ Some (joined_as S d.lra d.member r.links)
 participant_is home S errand d due r = let held = due.held in let stayed = r.stayed in let joined = r.joined in rw (held, stayed, joined) refl
 
 pub link_is : (S : List Fact) (errand : Errand) (d : Due) (r : IsReady S errand d) → link_given S (kind_from S errand d) d.lra d.member ≡ Some r.link
 link_is S errand d r = ap (λ o. option_map_or (link_for (kind_from S errand d)) o None) r.joined ∙ r.given
 
--- the kind by what is kept is the kind by the set
+-- the kind by the view is the kind by the set
 pub kind_is : (S : List Fact) (errand : Errand) (d : Due) (links : Links) → links_of S d.lra d.member ≡ Some links → kind_in errand (joined_as S d.lra d.member links) ≡ kind_from S errand d
 kind_is S Release d links joined = refl
 kind_is S Tell d links joined = refl
@@ -160,7 +160,7 @@ kind_is S (Call act) d links joined = ap (λ b. cond b Status (kind_of_act act))
     by CompleteAct = ap (λ b. is_busy (heard S d.lra d.member CompleteAct) && b) (sym (ap (λ o. option_map_or (λ (given : Links). is_some given.status) o false) joined))
     by CompensateAct = ap (λ b. is_busy (heard S d.lra d.member CompensateAct) && b) (sym (ap (λ o. option_map_or (λ (given : Links). is_some given.status) o false) joined))
 
--- the duty that is made of what is kept
+-- the duty that is made from the view
 pub made : (home : ℕ) (S : List Fact) (errand : Errand) (d : Due) → IsDueAt home S (due_by errand) d → (p : ParticipantRecord) (kind : Kind) (act : Act) (link : List ℕ) (parent : Option Id) (shows : Option LraStatus) → Some p ≡ participant_of S d.lra d.member → kind ≡ kind_in errand p → Some act ≡ act_from S errand d → Some link ≡ link_for kind p.links → parent ≡ parent_held S d.lra → shows ≡ shown_for S kind d.lra → ◌≡◌ {A = Duty} (record { kind = kind; act = act; id = d.lra; member = d.member; link = link; parent = parent; shows = shows }) (duty_from S errand d)
 made home S errand d due p kind act link parent shows kept is_kind is_act is_link is_parent is_shown =
     ap (λ k. mk k act link parent shows) kinds ∙ ap (λ a. mk (kind_from S errand d) a link parent shows) acting ∙ ap (λ l. mk (kind_from S errand d) the_act l parent shows) linked

@@ -1,4 +1,4 @@
--- what is heard where no whole response came
+-- what is learned if no whole response came
 use Rattle.std.proofs.Common.{◌≡◌, ◌∙◌, ◌<◌, ◌++◌, ℕ, List, [], Some, length, refl, subst, sym}
 use Rattle.std.proofs.lemmas.List.{append_cancel_left}
 use Rattle.lra_id.specs.declared.outcome.Act.{Act}
@@ -15,7 +15,7 @@ use Rattle.lra_callback.specs.declared.answer.Kind.{Kind}
 use Rattle.lra_callback.specs.Answers.{heard_of}
 use Rattle.lra_callback.specs.OneCall.{IsCodeOf}
 
--- two lists that were given between the same two moments are one
+-- two lists that were given between the same two moments are the same list
 one_given : (old new : GivenBytes) (a b : List ℕ) → Gives old new a → Gives old new b → a ≡ b
 one_given old new a b p q = append_cancel_left old.given a b (sym p.given ∙ q.given)
 

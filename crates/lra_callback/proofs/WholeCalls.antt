@@ -233,7 +233,7 @@ all_plain d host fits visible =
     (All-cons IsPlain (field Recovery (recovery_path d.id d.member)) _ (field_plain Recovery (recovery_path d.id d.member) (path_seen d.id d.member fits))
     (All-append IsPlain (length_fields d.kind d.shows) _ (lengths_plain d.kind d.shows) close_plain))))
 
--- the fields, by what they go by
+-- the fields, from the data that determine them
 abbrev fields_by : Id → ℕ → Option Id → Kind → Option LraStatus → List Field
 fields_by id m parent kind shows =
     field (action_name kind) (urn id) ∷ (parent_fields parent ++ (field Recovery (recovery_path id m) ∷ (length_fields kind shows ++ (field Connection (codes "close") ∷ []))))
@@ -355,7 +355,7 @@ whole_of d url method target host body fields parts fits em et eh ef eb =
     λ i. record { method = sym em i; target = sym et i; host = sym eh i; fields = sym ef i; body = sym eb i } in
     subst IsOneRequest same (whole_call d url parts fits)
 
--- what is read of a kept link is a link
+-- what a stored link is parsed as is a link
 pub read_link : (link : List ℕ) (url : Parts) → kept_text link ≡ Some link → parse_url None link ≡ Ok url → is_link url ≡ true
 read_link link url kept read = by (nat_le (length link) 127) refl
   where
