@@ -1,4 +1,4 @@
--- That between two lists only what the first names is called.
+-- Between two lists, only what the first list names is called.
 use Rattle.std.proofs.Common.{◌≡◌, ◌≤◌, ◌<◌, ◌+◌, ◌∷◌, [], ◌∙◌, inl, inr, ℕ, Bool, IfSome, List, Option, Some, None, ap, arith, refl, slice_set, subst, sym, suc, zero}
 use Rattle.std.proofs.lemmas.List.Elements.{All-cons, All-contains, All-nil, All-set}
 use Rattle.std.specs.List.{All, Contains}

@@ -1,4 +1,4 @@
--- Counting over lists, and who is one.
+-- Counting over lists, and when two participants are the same.
 use Rattle.std.proofs.Common.{◌≡◌, ◌≤◌, ◌+◌, ◌∷◌, [], ◌&&◌, ◌==◌, ◌∙◌, ℕ, Bool, true, false, List, Some, ap, arith, cond, filter, map, not, refl, sym, length, ◌<◌, get_or, zero, suc}
 use Rattle.std.proofs.lemmas.Bool.{eqb-true}
 use Rattle.std.proofs.lemmas.List.Filters.{sum_by-filter_both}
@@ -8,7 +8,7 @@ use Rattle.lra_id.specs.Ids.{Id, same_id}
 use Rattle.lra_turns.specs.Slips.{same_called, same_flag}
 use Rattle.lra_turns.specs.declared.slip.Called.{Called}
 
--- both sums together are below a third, where that is so of each
+-- if the sum is below the third for each element, the two sums together are below the third sum
 pub sums_below : {X : Type 0} (f g h : X → ℕ) → ((x : X) → f x + g x ≤ h x) → (xs : List X) → sum_by f xs + sum_by g xs ≤ sum_by h xs
 sums_below f g h each [] = omega arith
 sums_below f g h each (x ∷ xs) = omega (arith, sum_by-cons f x xs, sum_by-cons g x xs, sum_by-cons h x xs, each x, sums_below f g h each xs)
@@ -21,7 +21,7 @@ pub sums_mapped : {X : Type 0} (f : X → ℕ) (change : X → X) (xs : List X) 
 sums_mapped f change [] = refl
 sums_mapped f change (x ∷ xs) = omega (arith, sum_by-cons f (change x) (map change xs), sum_by-cons (λ x. f (change x)) x xs, sums_mapped f change xs)
 
--- a count over those that a change gives, where each passes as it did
+-- a count over the changed elements, if each passes the test as it did
 pub counts_mapped : {X : Type 0} (test : X → Bool) (change : X → X) → ((x : X) → test (change x) ≡ test x) → (xs : List X) → count_by test (map change xs) ≡ count_by test xs
 counts_mapped test change each xs =
     sums_mapped (λ x. cond (test x) 1 0) change xs ∙ sums_alike (λ x. cond (test (change x)) 1 0) (λ x. cond (test x) 1 0) (λ x. ap {B = ℕ} (λ b. cond b 1 0) (each x)) xs
@@ -49,7 +49,7 @@ id_is a b e =
     let num = eqb-true a.num b.num (and_true_right (a.home == b.home) (a.num == b.num) e) in
     ap (λ (x : ℕ). record { home = x; num = a.num }) home ∙ ap (λ (x : ℕ). record { home = b.home; num = x }) num
 
--- those who are called alike are one
+-- participants that are called alike are the same
 pub called_is : (a b : Called) → same_called a b ≡ true → a ≡ b
 called_is a b e =
     let id = id_is a.id b.id (and_true_left (same_id a.id b.id) ((a.member == b.member) && same_flag a.of_end b.of_end) e) in
@@ -76,7 +76,7 @@ called_self a =
     both_true (same_id a.id a.id) _ (both_true (a.id.home == a.id.home) _ (number_self a.id.home) (number_self a.id.num))
     (both_true (a.member == a.member) _ (number_self a.member) (flag_self a.of_end))
 
--- a place that a search gives is one of the list, and what stands there passes
+-- a place that a search returns is in the list, and the element there passes
 pub record IsFoundAt {X : Type 0} (test : X → Bool) (from : ℕ) (xs : List X) (place : ℕ) (d : X) : Type 0 where
   pub behind : ℕ
   pub is : place ≡ from + behind
@@ -99,7 +99,7 @@ found_in test from place (x ∷ xs) d e =
       | false ↦ λ is e. found_later test from place x xs d (found_in test (from + 1) place xs d e)
     ] refl e
 
--- of those that a filter leaves no more pass than before; as many, where each that it drops doesn't
+-- after a filter no more elements pass than before; as many, if no dropped element passes
 pub filter_below : {X : Type 0} (test p : X → Bool) (xs : List X) → count_by test (filter p xs) ≤ count_by test xs
 filter_below test p xs = omega (arith, sum_by-filter_both p (λ x. not (p x)) (λ x. refl) (λ x. cond (test x) 1 0) xs)
 
@@ -116,8 +116,8 @@ pub none_left : {X : Type 0} (xs : List X) → length xs ≡ 0 → xs ≡ []
 none_left [] e = refl
 none_left (x ∷ xs) e = absurd (omega (arith, e))
 
--- what a filter leaves is within two sums, where each that it keeps is; and all are within what it leaves and another sum, where each
--- that it drops is
+-- a sum over what a filter keeps is within two sums, if each kept element is; and the sum over all
+-- is within that over what it keeps and another sum, if each dropped element is
 pub filter_within : {X : Type 0} (f g h : X → ℕ) (p : X → Bool) → ((x : X) → p x ≡ true → f x ≤ g x + h x) → (xs : List X) → sum_by f (filter p xs) ≤ sum_by g xs + sum_by h xs
 filter_within f g h p each [] = omega arith
 filter_within f g h p each (x ∷ xs) =

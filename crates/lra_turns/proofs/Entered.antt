@@ -1,4 +1,4 @@
--- What comes of a duty of a list, in numbers.
+-- The result of a duty of a list, in numbers.
 use Rattle.std.proofs.Common.{◌≡◌, ◌≤◌, ◌+◌, ◌∷◌, [], ◌&&◌, ◌∙◌, ℕ, Bool, true, false, List, Option, Some, None, ap, arith, cond, is_none, not, refl, sym}
 use Rattle.std.proofs.lemmas.Bool.{and_left, and_right}
 use Rattle.std.proofs.lemmas.List.Sums.{sum_by-cons, sum_by-set, sum_by_push}
@@ -17,7 +17,7 @@ use Rattle.lra_turns.specs.declared.slip.Stand.TheVariants.{IsCalled, Pauses, Wa
 use Rattle.lra_turns.proofs.Counts.{found_in}
 use Rattle.lra_turns.proofs.Once.{bit, not_stray, none_stray}
 
--- duties at hosts where a host is noted, and where one more is put
+-- duties at hosts after a host is noted, and after one more is put
 dues_noted : (who : Called) (duty : Duty) (hosts : List AtHost) (at : Option ℕ) → host_place duty hosts ≡ at → dues_of who (changed_at at listed hosts) ≡ dues_of who hosts
 dues_noted who duty hosts None e = refl
 dues_noted who duty hosts (Some place) e =
@@ -93,7 +93,8 @@ over_called now Waits e = refl
 over_called now IsCalled e = absurd cc
 over_called now (Pauses until) e = refl
 
--- one that isn't called, and one of which a list has brought something, isn't called for what the list has
+-- a participant that isn't called, or for which a list has brought something, isn't called for what
+-- the list has
 idle_not_current : (slip : Slip) → is_called slip ≡ false → is_current slip ≡ false
 idle_not_current slip e = and_left (is_called slip) (slip.is_listed && is_none slip.kept) e
 
@@ -101,7 +102,7 @@ kept_not_current : (duty : Duty) (slip : Slip) → slip.kept ≡ Some duty → i
 kept_not_current duty slip e =
     and_right (is_called slip) (slip.is_listed && is_none slip.kept) (and_right slip.is_listed (is_none slip.kept) (ap (λ (k : Option Duty). is_none k) e))
 
--- what is entered of a slip of the one for whom the duty is, in numbers
+-- what is recorded for a slip of the participant that the duty is for, in numbers
 pub record Enters (now : Duration) (duty : Duty) (old new : Slip) (before after : Turns) (is_put : Bool) : Type 0 where
   pub whose : new.who ≡ old.who
   pub calls : is_called new ≡ is_called old

@@ -35,7 +35,7 @@ none_not_on now Waits u = refl
 none_not_on now IsCalled u = refl
 none_not_on now (Pauses moment) u = absurd cc
 
--- one that doesn't pause any longer changes nothing
+-- a slip that doesn't pause any longer changes nothing
 passed : (now : Duration) (place : ℕ) (slips : List Slip) (next : Option Duration) → pauses now (slip_at slips place) ≡ false → IsFirstPause now place slips next → IsFirstPause now (place + 1) slips next
 passed now place slips None off h = λ k e.
     elim (eqb_tells k place) as (λ _. pauses now (slip_at slips k) ≡ false) [
@@ -54,7 +54,7 @@ passed now place slips (Some at) off h = record {
       ];
 }
 
--- one that pauses may be the first
+-- a slip that pauses may be the first
 here : (now : Duration) (place : ℕ) (slips : List Slip) (at until : Duration) → until_in (slip_at slips place).stand ≡ Some until → as_nanos at ≤ as_nanos until
     → ((k : ℕ) → k < place → pauses now (slip_at slips k) ≡ true → IfSome (until_in (slip_at slips k).stand) (λ (u : Duration). as_nanos at ≤ as_nanos u))
     → (k : ℕ) → k < place + 1 → pauses now (slip_at slips k) ≡ true → IfSome (until_in (slip_at slips k).stand) (λ (u : Duration). as_nanos at ≤ as_nanos u)

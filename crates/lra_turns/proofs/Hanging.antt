@@ -1,4 +1,4 @@
--- How many callers hosts that hang hold, and that a slow one waits for none of them.
+-- How many caller threads hosts that hang occupy; a slow host waits for none of these.
 use Rattle.std.proofs.Common.{◌≡◌, ◌<◌, ◌≤◌, ◌+◌, ◌-◌, ℕ, Bool, true, false, List, Option, None, Some, ap, arith, cond, filter, length, map, max, refl}
 use Rattle.std.proofs.lemmas.List.Sums.{length-filter}
 use Rattle.std.specs.Prelude.{if◌then◌else◌, nat_lt}
@@ -13,7 +13,7 @@ use Rattle.lra_turns.specs.declared.host.Busy.{Busy}
 use Rattle.lra_turns.specs.declared.pace.Pace.{Pace}
 use Rattle.lra_turns.specs.declared.pace.Pace.TheVariants.{Hanging, Quick, Refusing, Slow, Unknown}
 
--- who isn't quick begins no call but one of three
+-- a host that isn't quick begins a call only if it is one of three
 one_of_three : (pace : Pace) (busy : Busy) (calls : ℕ) (due : Bool) → is_quick pace ≡ false
     → (if nat_lt calls (share pace) then (if has_room busy pace then due else false) else false) ≡ true → busy.unsure < 3
 one_of_three Quick busy calls due is may = absurd cc
@@ -28,7 +28,7 @@ other_few busy host is may = one_of_three host.pace busy host.calls (is_due host
 pub other_counts : (host : AtHost) → is_quick host.pace ≡ false → is_called_unsurely host ≡ nat_lt 0 host.calls
 other_counts host is = ap {B = Bool} (λ b. if b then false else nat_lt 0 host.calls) is
 
--- who hangs begins no call but one of two
+-- a host that hangs begins a call only if it is one of two
 one_of_two : (pace : Pace) (busy : Busy) (calls : ℕ) (due : Bool) → pace ≡ Hanging
     → (if nat_lt calls (share pace) then (if has_room busy pace then due else false) else false) ≡ true → busy.hanging < 2
 one_of_two Quick busy calls due is may = absurd cc
@@ -40,7 +40,7 @@ one_of_two Hanging busy calls due is may = grind (arith, may)
 pub hanging_few : (busy : Busy) (host : AtHost) → host.pace ≡ Hanging → may_be_called busy host ≡ true → busy.hanging < 2
 hanging_few busy host is may = one_of_two host.pace busy host.calls (is_due host) is may
 
--- a call that may begin is the second at most to hosts that hang
+-- a call that may begin is at most the second to hosts that hang
 begun_two : (pace : Pace) (busy : Busy) (calls : ℕ) (due : Bool)
     → (if nat_lt calls (share pace) then (if has_room busy pace then due else false) else false) ≡ true
     → busy.hanging + one_if (if is_hanging pace then nat_lt 0 (calls + 1) else false) ≤ max 2 busy.hanging + one_if (if is_hanging pace then nat_lt 0 calls else false)
@@ -62,7 +62,7 @@ pub taken_hanging : (old new : Turns) (duty : Option Duty) → IsTaken old new d
 taken_hanging old new None taken = omega (arith, ap (λ (t : Turns). hanging_calls t.hosts) taken.1)
 taken_hanging old new (Some duty) (place, next, begins) = taken_two place duty old new next begins
 
--- a host counts for one at most, and for none that isn't called
+-- a host counts as at most one, and as none if it isn't called
 hangs_once : (pace : Pace) (calls : ℕ) → one_if (if is_hanging pace then nat_lt 0 calls else false) ≤ calls
 hangs_once Quick calls = omega arith
 hangs_once Unknown calls = omega arith
@@ -70,7 +70,7 @@ hangs_once Slow calls = omega arith
 hangs_once Refusing calls = omega arith
 hangs_once Hanging calls = grind arith
 
--- a call that is over adds one if another goes on there
+-- a call that is over adds one if another goes on at that host
 ended_if : (hosts : List AtHost) (pace : Pace) (place : Option ℕ) → ((at : ℕ) → place ≡ Some at → at < length hosts)
     → hanging_calls (changed_at place (with_end pace) hosts) ≤ hanging_calls hosts + other_calls_at place hosts
 ended_if hosts pace None within = omega arith
@@ -82,7 +82,7 @@ pub ended_hanging : (duty : Duty) (pace : Pace) (hosts : List AtHost)
     → hanging_calls (changed_at (place_of duty hosts) (with_end pace) hosts) ≤ hanging_calls hosts + other_calls duty hosts
 ended_hanging duty pace hosts = ended_if hosts pace (place_of duty hosts) (λ at is. known_within duty hosts at is)
 
--- slow hosts and those that hang are different ones, and not quick
+-- slow hosts and hosts that hang are different, and neither is quick
 different : (pace : Pace) (calls : ℕ)
     → one_if (if is_slow pace then nat_lt 0 calls else false) + one_if (if is_hanging pace then nat_lt 0 calls else false) ≤ one_if (if is_quick pace then false else nat_lt 0 calls)
 different Quick calls = omega arith
@@ -104,7 +104,7 @@ slow_and_hanging hosts =
 pub hanging_below : (hosts : List AtHost) → LeavesOne hosts → hanging_calls hosts ≤ 3
 hanging_below hosts few = omega (arith, slow_and_hanging hosts, few)
 
--- who isn't kept isn't called
+-- a host that isn't kept isn't called
 dropped_still : (pace : Pace) (calls : ℕ) (is_listed : Bool) → (if is_listed then true else nat_lt 0 calls) ≡ false → (if is_hanging pace then nat_lt 0 calls else false) ≡ false
 dropped_still Quick calls is_listed is = refl
 dropped_still Unknown calls is_listed is = refl

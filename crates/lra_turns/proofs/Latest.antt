@@ -1,4 +1,4 @@
--- That a participant is called only for what the last list names.
+-- A participant is called only for what the last list names.
 use Rattle.std.proofs.Common.{◌≡◌, ◌≤◌, ◌<◌, ◌+◌, ◌&&◌, ◌∙◌, ℕ, Bool, true, false, IfSome, List, Option, Some, None, MatchBool, ap, arith, is_none, length, map, not, refl, slice_set, subst, sym}
 use Rattle.std.proofs.lemmas.Bool.{and_left as and_no, and_right as and_none}
 use Rattle.std.proofs.lemmas.List.Elements.{All-filter, All-set}
@@ -19,7 +19,7 @@ use Rattle.lra_turns.proofs.Counts.{called_self, filter_below, sums_below}
 use Rattle.lra_turns.proofs.Once.{PausesOne, bit, busy_pauses, found_counts, found_slip, missed_pauses, others_begun, set_counts}
 use Rattle.lra_turns.proofs.Puts.{both_below, read_counts}
 
--- one that pauses is called for nothing
+-- a participant that pauses is called for nothing
 paused_no_call : (who : Called) (place : ℕ) (old new : Calling) → PausesOne who place old new → BeginsNoCall old new
 paused_no_call who place old new p = λ other.
     let none : is_current p.slip ≡ false = and_no (is_called p.slip) (p.slip.is_listed && is_none p.slip.kept) p.called in
@@ -63,7 +63,7 @@ missed_no_call duty came now old new plight p once = missed_at duty came now old
 pub taken_others : (who : Called) (old new : Calling) (duty : Duty) → IsTakenFrom old new (Some duty) → same_called (called_of duty) who ≡ false → current_of who new.slips ≡ current_of who old.slips
 taken_others who old new duty taken differs = ap (current_of who) taken.slips ∙ others_begun (called_of duty) who is_current old.slips differs
 
--- what is kept where one is forgotten, and where one slip is changed
+-- what is kept if a participant is forgotten, and if a slip is changed
 pub forgotten_names : (test : Duty → Bool) (who : Called) (old : Calling) → AllNamed test old → AllNamed test (forgotten who old)
 forgotten_names test who old named = record { waiting = named.waiting; kept = All-filter (λ (slip : Slip). not (same_called slip.who who)) (IsKept test) old.slips named.kept }
 
@@ -74,7 +74,7 @@ paused_names test who place old new p kept is named = record {
   kept = subst (AllKept test) (sym is) (All-set (IsKept test) old.slips place (slip_at new.slips place) kept named.kept);
 }
 
--- for what it is called next, by what a list has brought
+-- for what a participant is called next, given what a list has brought
 pub newest_passes : (test : Duty → Bool) (brought : Option Duty) (duty : Duty) → IfSome brought (Passes test) → (is_none brought ≡ true → Passes test duty) → Passes test (newest brought duty)
 newest_passes test None duty kept else = else refl
 newest_passes test (Some newer) duty kept else = kept
@@ -105,7 +105,7 @@ pub missed_behind : (test : Duty → Bool) (duty : Duty) (came : Came) (now : Du
     → Passes test duty → AllNamed test old → AllNamed test new
 missed_behind test duty came now old new plight p passes named = named_at test duty came now old new plight (place_of (called_of duty) old.slips) refl p (λ place e l k. passes) named
 
--- the one slip of somebody who is called is of that call
+-- the only slip of a participant that is called is that of the call
 idle_bit : (a b : Bool) → bit (a && b) + bit (a && not b) ≤ bit a
 idle_bit true true = omega arith
 idle_bit true false = omega arith

@@ -34,7 +34,7 @@ back_pauses now who Waits = fresh_paused now who
 back_pauses now who IsCalled = refl
 back_pauses now who (Pauses until) = refl
 
--- what is taken back, as to somebody
+-- what is taken back, for a given participant
 record TakesBack (now : Duration) (who : Called) (old : Calling) : Type 0 where
   calls : calls_of who (map taken_back old.slips) ≡ calls_of who old.slips
   pauses : pauses_of now who (map taken_back old.slips) ≡ pauses_of now who old.slips
@@ -78,7 +78,7 @@ still true true c e = omega (arith, ap {B = ℕ} (λ (c : Bool). bit (not c)) e)
 still true false c e = omega arith
 still false b c e = omega arith
 
--- who isn't remembered is neither on the list nor called
+-- a participant that isn't remembered is neither on the list nor called
 not_listed : (slip : Slip) (b : Bool) → slip.is_listed ≡ b → is_remembered slip ≡ false → b ≡ false
 not_listed slip true e r = ap (λ (b : Bool). if b then true else is_called slip) (sym e) ∙ r
 not_listed slip false e r = refl
@@ -120,7 +120,7 @@ left_dues who hosts =
 fewer_dues : (who : Called) (hosts : List AtHost) → dues_of who (filter is_kept hosts) ≤ dues_of who hosts
 fewer_dues who hosts = omega (arith, sum_by-filter_both is_kept (λ (host : AtHost). not (is_kept host)) (λ host. refl) (λ (host : AtHost). duties_for who host.due) hosts)
 
--- a list of duties: all are taken back, those of the list are put, and the others forgotten
+-- a list of duties: all are taken back, those on the list are put, and the others forgotten
 pub record Lists (now : Duration) (duties : List Duty) (old mid : Calling) (is_whole : Bool) : Type 0 where
   pub puts : (who : Called) → PutsSome now who (duties_for who duties) 0 (recalled_all old) mid is_whole
 

@@ -1,4 +1,4 @@
--- What keeps each participant there once, so that none is called twice at a time.
+-- Why each participant is there only once, so that none has two calls at a time.
 use Rattle.std.proofs.Common.{◌≡◌, ◌≤◌, ◌<◌, ◌+◌, ◌&&◌, ◌∙◌, ℕ, Bool, true, false, List, Option, Some, None, ap, arith, cond, length, map, not, refl, rules, slice_set, subst, sym}
 use Rattle.std.proofs.lemmas.Bool.{and_left as and_no}
 use Rattle.std.proofs.lemmas.List.Sums.{sum_by-cons, sum_by-set}
@@ -23,11 +23,11 @@ use Rattle.lra_turns.specs.declared.slip.Stand.{Stand}
 use Rattle.lra_turns.specs.declared.slip.Stand.TheVariants.{IsCalled, Pauses, Waits}
 use Rattle.lra_turns.proofs.Counts.{called_is, called_self, counts_mapped, filter_below, filter_keeps, found_in, sums_alike, sums_below, sums_mapped}
 
--- as a number
+-- a test as a number
 abbrev pub bit : Bool → ℕ
 bit b = cond b 1 0
 
--- a slip waits or is called, and not both
+-- a slip waits or is called, but not both
 one_of_both : (who : Called) (stand : Stand) (slip : Slip) (b : Bool) → slip.stand ≡ stand → is_of who slip ≡ b
     → bit (b && waits (standing stand slip)) + bit (b && is_called (standing stand slip)) ≤ bit b
 one_of_both who Waits slip true e is = omega arith
@@ -40,7 +40,7 @@ apart who slips =
     sums_below (λ (slip : Slip). bit (is_of who slip && waits slip)) (λ (slip : Slip). bit (is_of who slip && is_called slip)) (λ (slip : Slip). bit (is_of who slip))
     (λ slip. one_of_both who slip.stand slip (is_of who slip) refl refl) slips
 
--- one whose call begins, of two
+-- of two slips, the one whose call begins
 begun_slip : (who : Called) (b : Bool) (slip : Slip) → is_of who (if b then standing IsCalled slip else slip) ≡ is_of who slip
 begun_slip who true slip = refl
 begun_slip who false slip = refl
@@ -101,7 +101,7 @@ numbers who duty old new taken = record {
   slips = ap (slips_of who) taken.slips ∙ slips_begun (called_of duty) who old.slips;
 }
 
--- who is called was not called, and waited
+-- a participant whose call begins was not being called, and waited
 pub begins_once : (old new : Calling) (duty : Duty) → HasEachOnce old → IsTakenFrom old new (Some duty) → BeginsOnce (called_of duty) old new
 begins_once old new duty once taken =
     let who = called_of duty in
@@ -129,7 +129,7 @@ once_taken old new duty once taken = record {
   kept = ap (count_by is_stray) taken.slips ∙ stray_begun (called_of duty) old.slips ∙ once.kept;
 }
 
--- one whose slip changes
+-- the slip that changes
 abbrev pub as_many : (Slip → Bool) → List Slip → Slip → List Slip → Slip → Type 0
 as_many test old slip new changed = count_by test new + bit (test slip) ≡ count_by test old + bit (test changed)
 
@@ -138,11 +138,11 @@ pub set_counts : (test : Slip → Bool) (old new : List Slip) (place : ℕ) (cha
 set_counts test old new place changed within is =
     omega (arith, ap (count_by test) is, sum_by-set (λ (slip : Slip). bit (test slip)) old place changed nobody within)
 
--- who is called doesn't wait at a host
+-- a participant that is being called doesn't wait at a host
 idle : (who : Called) (calling : Calling) → HasEachOnce calling → IsBeingCalled who calling → dues_of who calling.now.hosts ≡ 0
 idle who calling once called = omega (arith, once.slips who, once.waits who, apart who calling.slips, called)
 
--- one that is changed from a call to a pause
+-- a participant that goes from a call to a pause
 pub record PausesOne (who : Called) (place : ℕ) (old new : Calling) : Type 0 where
   pub slip : Slip
   pub within : place < length old.slips
@@ -191,7 +191,7 @@ pub others_paused : (who : Called) (place : ℕ) (old new : Calling) → PausesO
     → (other : Called) → same_called who other ≡ false → calls_of other new.slips ≡ calls_of other old.slips
 others_paused who place old new p other differs = paused_other who other is_called place old new differs p
 
--- the slip that a search for somebody gives is of it
+-- the slip that a search for a participant returns is that participant's
 pub found_slip : (who : Called) (place : ℕ) (slips : List Slip) → place_of who slips ≡ Some place → (place < length slips) × ((slip_at slips place).who ≡ who)
 found_slip who place slips e =
     let f = found_in (is_of who) 0 place slips nobody e in
@@ -219,7 +219,7 @@ busy_pauses who now place old new e p = let found = found_slip who place old.sli
   hosts = p.hosts;
 }
 
--- what a list brought is its own, as it was; and else the duty is
+-- what a list brought stays as it was; otherwise it is the duty
 newest_stray : (duty : Duty) (old new : Slip) (brought : Option Duty) → old.kept ≡ brought → new.kept ≡ Some (newest brought duty) → new.who ≡ old.who → old.who ≡ called_of duty
     → bit (is_stray new) ≤ bit (is_stray old)
 newest_stray duty old new None was is same its = omega (arith, ap {B = ℕ} bit (not_stray duty new is (same ∙ its)))
@@ -253,7 +253,7 @@ pub busy_once : (who : Called) (now : Duration) (old new : Calling) → IsBusyAt
     → (IsBeingCalled who old → HasEachOnce old → HasEachOnce new) × LeavesOthers who old new
 busy_once who now old new p = busy_at who now old new (place_of who old.slips) refl p
 
--- who was heard of stands as it stood
+-- a participant that was heard from stands as it stood
 pub found_counts : (test : Slip → Bool) → ((slip : Slip) → test (found slip) ≡ test slip) → (duty : Duty) (now : Duration) (old new : Calling) (plight : Option Plight) (at : Option ℕ)
     → place_of (called_of duty) old.slips ≡ at → IsFound at duty now old new plight → count_by test new.slips ≡ count_by test old.slips
 found_counts test each duty now old new plight None e same = ap (λ (c : Calling). count_by test c.slips) same.0
@@ -285,7 +285,7 @@ not_false : (b : Bool) → not b ≡ false → b ≡ true
 not_false true e = refl
 not_false false e = sym e
 
--- who is forgotten was called
+-- a participant that is forgotten was being called
 other_left : (who other : Called) (f : Slip → Bool) (slips : List Slip) → same_called who other ≡ false
     → count_by (λ (slip : Slip). is_of other slip && f slip) (without who slips) ≡ count_by (λ (slip : Slip). is_of other slip && f slip) slips
 other_left who other f slips differs =
@@ -310,7 +310,7 @@ once_forgotten who calling called once = record {
 pub others_left : (who : Called) (slips : List Slip) (other : Called) → same_called who other ≡ false → calls_of other (without who slips) ≡ calls_of other slips
 others_left who slips other differs = other_left who other is_called slips differs
 
--- one who was called in vain pauses, or is forgotten
+-- a participant whose call failed pauses or is forgotten
 missed_by : (duty : Duty) (came : Came) (now : Duration) (old new : Calling) (plight : Option Plight) (place : ℕ) (is_listed : Bool) → place_of (called_of duty) old.slips ≡ Some place
     → MatchBool is_listed (IsMissedAt place duty came now old new plight) ((new ≡ forgotten (called_of duty) old) × (plight ≡ None))
     → (IsBeingCalled (called_of duty) old → HasEachOnce old → HasEachOnce new) × LeavesOthers (called_of duty) old new
@@ -331,7 +331,7 @@ pub missed_once : (duty : Duty) (came : Came) (now : Duration) (old new : Callin
     → (IsBeingCalled (called_of duty) old → HasEachOnce old → HasEachOnce new) × LeavesOthers (called_of duty) old new
 missed_once duty came now old new plight p = missed_at duty came now old new plight (place_of (called_of duty) old.slips) refl p
 
--- of a call that is over the host has the same duties
+-- when a call is over, its host has the same duties
 dues_ended : (who : Called) (duty : Duty) (pace : Pace) (hosts : List AtHost) (at : Option ℕ) → host_place duty hosts ≡ at → dues_of who (changed_at at (with_end pace) hosts) ≡ dues_of who hosts
 dues_ended who duty pace hosts None e = refl
 dues_ended who duty pace hosts (Some place) e =

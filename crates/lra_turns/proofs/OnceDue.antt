@@ -1,4 +1,4 @@
--- The duties of a list are due, and nobody is due twice.
+-- The duties of a list are due, and no participant is due twice.
 use Rattle.std.proofs.Common.{◌≡◌, ◌≤◌, ◌<◌, ◌∷◌, [], ◌⊎◌, ◌&&◌, ◌==◌, ◌∙◌, ℕ, Bool, true, false, List, Option, Some, None, ap, arith, cond, inl, inr, nat_lt, refl, subst, sym}
 use mathlib.Core.Bool.{not}
 use Rattle.std.proofs.lemmas.Bool.Decides.{nat_tests}
@@ -37,7 +37,7 @@ use Rattle.lra_turns.proofs.Once.{bit}
 false_true : false ≡ true → ⊥
 false_true e = cc
 
--- what a participant is that is to complete, and one that is to compensate
+-- what holds for a participant that is to complete, and for one that is to compensate
 
 pub record Completes (S : List Fact) (l : Id) (m : ℕ) : Type 0 where
   pub wants : want S l ≡ Some Close
@@ -90,7 +90,7 @@ compensates_at S l m (Some a) top e =
 compensates : (S : List Fact) (l : Id) (m : ℕ) → is_compensation_due S l m ≡ true → Compensates S l m
 compensates S l m e = compensates_at S l m (topmost_cancelled S l) refl e
 
--- what one that is to forget shows
+-- what a participant shows that is to forget
 forgets : (S : List Fact) (l : Id) (m : ℕ) (links : Links) → links_of S l m ≡ Some links → is_forget_duty S l m ≡ true
     → has_to_forget (not (is_root S l)) (status_by (want S l) links (heard S l m CompleteAct) (heard S l m CompensateAct)) ≡ true
 forgets S l m links joined e =
@@ -137,7 +137,7 @@ forgets_not S l m c f =
     let asked = subst (λ (b : Bool). has_to_forget (not (is_root S l)) (cond b (compensating (heard S l m CompensateAct)) Compensated) ≡ true) c.compensate cancelled in
     compensating_forgets (not (is_root S l)) (heard S l m CompensateAct) c.pending asked
 
--- for what a participant is due, by the stage
+-- for what a participant is due, given the stage
 abbrev pub Stands : List Fact → Id → ℕ → ℕ → Bool → Type 0
 Stands S l m n after =
     ((n ≡ 0) × (is_complete_duty S l m ≡ true) × (after ≡ false))
@@ -232,6 +232,6 @@ once_for home S who (x ∷ xs) order duties =
       | false ↦ λ e. omega (arith, sum_by-cons (λ (d : Duty). bit (is_for who d)) x xs, ap {B = ℕ} bit e, rest)
     ] refl
 
--- all duties of a home, in their order, name nobody twice
+-- all duties of a home, in their order, name no participant twice
 pub named_once : (home : ℕ) (S : List Fact) (duties : List Duty) → AreAll (IsDuty home S) (comes_first S) duties → NamesNobodyTwice duties
 named_once home S duties all who = once_for home S who duties all.order all.only

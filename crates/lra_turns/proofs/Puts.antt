@@ -94,7 +94,7 @@ brought_slips who place duty old mid r brought = slips_at who place duty old mid
 first_same : (who : Called) (place : ℕ) (new : List Slip) → slips_of who (take (place + 0) new) ≡ slips_of who (take place new)
 first_same who place new = let e : place + 0 ≡ place = omega arith in ap (λ k. slips_of who (take k new)) e
 
--- nobody's slip came to the place
+-- no participant's slip came to the place
 pub puts_none : (now : Duration) (duty : Duty) (place : ℕ) (who : Called) (old new : Calling) → place ≤ length old.slips → new.now ≡ old.now → IsBrought place (called_of duty) old.slips new.slips false
     → PutsOne now duty place who old new false
 puts_none now duty place who old new room hosts brought =
@@ -121,7 +121,7 @@ puts_none now duty place who old new room hosts brought =
 pub read_counts : (f : Slip → Bool) (slips : List Slip) (place : ℕ) → place < length slips → bit (f (slip_at slips place)) ≤ count_by f slips
 read_counts f slips place within = omega (arith, sum_by_more_le (λ (slip : Slip). bit (f slip)) slips place nobody within)
 
--- a duty is entered at a place
+-- a duty is recorded at a place
 pub record EntersAt (now : Duration) (duty : Duty) (place : ℕ) (old new : Calling) (mid : List Slip) (slip : Slip) (is_put : Bool) : Type 0 where
   pub brought : IsBrought place (called_of duty) old.slips mid true
   pub is : new.slips ≡ slice_set mid place slip
@@ -247,7 +247,8 @@ puts_one now duty place who old new mid slip r room e =
       put = entered_put now duty place who old new mid slip r e;
     }
 
--- how many of the first slips are of somebody, with all of its duties that are left, are no more than its duties
+-- the number of a participant's slips among the first ones, together with its duties that are left,
+-- is at most the number of its duties
 abbrev pub IsFirstFew : Called → (all left place : ℕ) → List Slip → Type 0
 IsFirstFew who all left place slips = slips_of who (take place slips) + left ≤ all
 
@@ -292,7 +293,7 @@ pub first_next : (now : Duration) (who : Called) (all place : ℕ) (left rest : 
 first_next now who all place left rest duty mid new is_put is first one =
     omega (arith, first, one.first, ap (duties_for who) is, sum_by-cons (λ (d : Duty). bit (is_for who d)) duty rest, one_for who duty)
 
--- a place that is counted up as far as numbers go
+-- a place that is counted up to the greatest number
 pub first_capped : (who : Called) (all left place top next : ℕ) (slips : List Slip) → next ≡ min (place + 1) top → place ≤ top → place + 1 ≤ length slips
     → IsFirstFew who all left (place + 1) slips → IsFirstFew who all left next slips
 first_capped who all left place top next slips is below room first =

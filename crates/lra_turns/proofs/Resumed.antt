@@ -1,4 +1,4 @@
--- Those whose pause is over, in numbers.
+-- Participants whose pause is over, in numbers.
 use Rattle.std.proofs.Common.{◌≡◌, ◌≤◌, ◌<◌, ◌+◌, ◌&&◌, ◌∙◌, ℕ, Bool, true, false, List, MatchBool, Option, Some, None, ap, arith, inl, inr, length, not, refl, slice_set, subst, sym}
 use Rattle.std.proofs.lemmas.Bool.Decides.{eqb_tells}
 use Rattle.std.proofs.lemmas.List.{get_or-set_other, get_or-set_same}
@@ -24,7 +24,7 @@ use Rattle.lra_turns.proofs.Entered.{enters}
 use Rattle.lra_turns.proofs.Once.{bit, set_counts}
 use Rattle.lra_turns.proofs.Puts.{both_below, cond_for, read_counts}
 
--- what is entered of one whose pause is over
+-- what is recorded for a participant whose pause is over
 made_at : (now : Duration) (duty : Duty) (old new : Slip) (before after : Turns) (is_put over : Bool) → over ≡ true
     → MatchBool over (IsPut duty before after is_put × IsMadeToWait is_put old new) ((new ≡ keeping duty old) × (after ≡ noted duty before) × (is_put ≡ true))
     → IsMadeToWait is_put old new
@@ -45,7 +45,7 @@ resumed_at now old new before after next result false e h = h.0
 pub resumed : (now : Duration) (old new : Slip) (before after : Turns) (next result : Option Duration) → ResumesOne now old new before after next result → IsResumed now old new
 resumed now old new before after next result h = resumed_at now old new before after next result (is_over now old) refl h
 
--- what changes as to somebody with one slip
+-- what changes for a participant with one slip
 pub record ChangesSlip (old new : Slip) (before after : Turns) : Type 0 where
   pub whose : new.who ≡ old.who
   pub calls : is_called new ≡ is_called old
@@ -98,7 +98,7 @@ changes_at : (now : Duration) (old new : Slip) (before after : Turns) (next resu
 changes_at now old new before after next result true own h = kept_changes now old.kept old new before after refl own h.0
 changes_at now old new before after next result false own h = left_alone old new before after own h.0 h.1
 
--- one slip more of the list
+-- one more slip of the list
 pub stray_next : (now : Duration) (fn slips : List Slip) (place : ℕ) (new : Slip) (before after : Turns) (next result : Option Duration) → place < length slips
     → ResumesOne now (slip_at slips place) new before after next result → count_by is_stray slips ≡ 0 → count_by is_stray (slice_set slips place new) ≡ 0
 stray_next now fn slips place new before after next result within h own =
@@ -160,7 +160,7 @@ resumed_or_not : (now : Duration) (old new : Calling) (may later : Bool)
 resumed_or_not now old new may true h once = (subst HasEachOnce (sym h.0) once, λ who. ap (λ (c : Calling). calls_of who c.slips) h.0)
 resumed_or_not now old new may false h once = (once_all now old new h.0 once, λ who. (h.0.puts once.kept who).calls)
 
--- whose pause is over is there once, and who is called is left alone
+-- a participant whose pause is over is there once, and one that is being called is left alone
 pub resumed_once : (at : Option Duration) (now : Duration) (old new : Calling) (may : Bool) → ResumesAt at now old new may
     → HasEachOnce old → HasEachOnce new × ((who : Called) → calls_of who new.slips ≡ calls_of who old.slips)
 resumed_once None now old new may h once = (subst HasEachOnce (sym h.0) once, λ who. ap (λ (c : Calling). calls_of who c.slips) h.0)
@@ -172,7 +172,7 @@ resumed_begins : (now : Duration) (old new : Calling) (may later : Bool)
 resumed_begins now old new may true h once = λ who. omega (arith, ap (λ (c : Calling). current_of who c.slips) h.0)
 resumed_begins now old new may false h once = λ who. (h.0.puts once.kept who).current
 
--- whose pause is over waits
+-- a participant whose pause is over waits
 pub resumed_no_call : (at : Option Duration) (now : Duration) (old new : Calling) (may : Bool) → ResumesAt at now old new may → HasEachOnce old → BeginsNoCall old new
 resumed_no_call None now old new may h once = λ who. omega (arith, ap (λ (c : Calling). current_of who c.slips) h.0)
 resumed_no_call (Some at) now old new may h once = resumed_begins now old new may (nat_lt (as_nanos now) (as_nanos at)) h once

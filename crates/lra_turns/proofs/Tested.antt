@@ -1,4 +1,4 @@
--- How many hosts pass a test, once something has changed.
+-- How many hosts pass a test after a change.
 use Rattle.std.proofs.Common.{◌≡◌, ◌<◌, ◌≤◌, ◌+◌, ◌++◌, ◌∷◌, ◌∙◌, [], ℕ, Bool, true, false, List, Option, None, Some, ap, arith, cond, filter, length, map, refl, sym}
 use Rattle.std.proofs.lemmas.List.Sums.{length-filter, sum_by-set, sum_by_push}
 use Rattle.std.specs.Prelude.{slice_set}
@@ -12,13 +12,13 @@ passing test hosts = length (filter test hosts)
 abbrev pub one_if : Bool → ℕ
 one_if passes = cond passes 1 0
 
--- one host is another
+-- one host is replaced by another
 pub passing_set : (test : AtHost → Bool) (hosts : List AtHost) (place : ℕ) (host : AtHost) → place < length hosts
     → passing test (slice_set hosts place host) + one_if (test (host_at hosts place)) ≡ passing test hosts + one_if (test host)
 passing_set test hosts place host within =
     omega (arith, length-filter test (slice_set hosts place host), length-filter test hosts, sum_by-set (λ x. cond (test x) 1 0) hosts place host nowhere within)
 
--- a host that is known is one of them
+-- a known host is one of the hosts
 pub known_within : (duty : Duty) (hosts : List AtHost) (place : ℕ) → place_of duty hosts ≡ Some place → place < length hosts
 known_within duty hosts place is = let found = found_in (is_host_of duty) 0 place hosts nowhere is in omega (arith, found.is, found.within)
 
@@ -46,7 +46,7 @@ pub passing_kept : (test p : AtHost → Bool) → ((host : AtHost) → p host �
     → passing test (filter p hosts) ≡ passing test hosts
 passing_kept test p drops hosts = length-filter test (filter p hosts) ∙ filter_keeps test p drops hosts ∙ sym (length-filter test hosts)
 
--- a duty is put at its host, which passes as it did; one that comes doesn't pass
+-- a duty is put at its host, which passes as it did; a new host doesn't pass
 put_same : (test : AtHost → Bool) (duty : Duty) (old new : Turns) (is_put : Bool) (place : Option ℕ)
     → ((host : AtHost) → test (with_due duty host) ≡ test host) → ((host : AtHost) → test (listed host) ≡ test host) → test (newcomer duty (next_turn old.turns)) ≡ false
     → ((at : ℕ) → place ≡ Some at → at < length old.hosts) → IsPutAt place duty old new is_put → passing test new.hosts ≡ passing test old.hosts

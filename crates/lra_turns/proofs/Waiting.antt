@@ -1,4 +1,4 @@
--- How long hosts wait for their turn, and who is left for whom.
+-- How long hosts wait for their turn, and which threads are left for which hosts.
 use Rattle.std.proofs.Common.{◌≡◌, ◌<◌, ◌≤◌, ◌+◌, ◌-◌, ◌*◌, ◌∷◌, ◌∙◌, [], ℕ, Bool, true, false, List, Option, None, Some, ap, arith, cond, filter, length, map, not, refl, rules, subst, suc, sym, zero}
 use Rattle.std.proofs.lemmas.List.Sums.{length-filter, sum_by-cons, sum_by-set}
 use Rattle.std.specs.Prelude.{if◌then◌else◌, nat_le, nat_lt, slice_set}
@@ -21,7 +21,7 @@ quick_may Slow busy calls due is few waits = absurd cc
 quick_may Refusing busy calls due is few waits = absurd cc
 quick_may Hanging busy calls due is few waits = absurd cc
 
--- while a host may be called, one is
+-- while some host may be called, a host is called
 pub none_waits : (now : Turns) (place : ℕ) → IsNext now None → place < length now.hosts → may_be_called (busy_with now.hosts) (host_at now.hosts place) ≡ true → ⊥
 none_waits now place next within may = search rules
 
@@ -34,7 +34,7 @@ quick_is_next now place within is few waits next =
     let may = quick_may_be_called (busy_with now.hosts) (host_at now.hosts place) is few waits in
     none_waits now place next within may
 
--- a call that may begin is the third at most to hosts of which no quick answer is known
+-- a call that may begin is at most the third to hosts that aren't known to answer quickly
 begun_few : (pace : Pace) (busy : Busy) (calls : ℕ) (due : Bool)
     → (if nat_lt calls (share pace) then (if has_room busy pace then due else false) else false) ≡ true → busy.unsure ≤ 3
     → busy.unsure + one_if (if is_quick pace then false else nat_lt 0 (calls + 1)) ≤ 3 + one_if (if is_quick pace then false else nat_lt 0 calls)
@@ -44,7 +44,7 @@ begun_few Slow busy calls due may few = grind (arith, may)
 begun_few Refusing busy calls due may few = grind (arith, may)
 begun_few Hanging busy calls due may few = grind (arith, may)
 
--- a host has as many calls at least as it counts for
+-- a host has at least as many calls as it counts for
 counts_once : (pace : Pace) (calls : ℕ) → one_if (if is_quick pace then false else nat_lt 0 calls) ≤ calls
 counts_once Quick calls = omega arith
 counts_once Unknown calls = grind arith
@@ -78,7 +78,7 @@ pub taken_leaves : (old new : Turns) (duty : Option Duty) → IsTaken old new du
 taken_leaves old new None taken few = subst (λ (t : Turns). LeavesOne t.hosts) (sym taken.1) few
 taken_leaves old new (Some duty) (place, next, begins) few = taken_at place duty old new next begins few
 
--- a call that is over: of four calls three are left at most
+-- after a call is over, at most three of four calls are left
 ended_at : (hosts : List AtHost) (pace : Pace) (place : ℕ) → place < length hosts → all_calls hosts ≤ 4 → LeavesOne hosts → LeavesOne (changed_at (Some place) (with_end pace) hosts)
 ended_at hosts pace place within all few =
     let p = host_at hosts place in
@@ -102,7 +102,7 @@ ended_if hosts pace (Some at) within all few = ended_at hosts pace at (within at
 pub ended_leaves : (duty : Duty) (pace : Pace) (hosts : List AtHost) → all_calls hosts ≤ 4 → LeavesOne hosts → LeavesOne (changed_at (place_of duty hosts) (with_end pace) hosts)
 ended_leaves duty pace hosts all few = ended_if hosts pace (place_of duty hosts) (λ at is. known_within duty hosts at is) all few
 
--- who isn't kept isn't called
+-- a host that isn't kept isn't called
 dropped_free : (pace : Pace) (calls : ℕ) (is_listed : Bool) → (if is_listed then true else nat_lt 0 calls) ≡ false → (if is_quick pace then false else nat_lt 0 calls) ≡ false
 dropped_free Quick calls is_listed is = refl
 dropped_free Unknown calls is_listed is = grind (arith, is)
@@ -137,7 +137,7 @@ taken_behind turn place duty old new within begins behind =
 pub taken_ahead : (turn : ℕ) (old new : Turns) (duty : Duty) → IsTaken old new (Some duty) → turn < next_turn old.turns → ahead turn new.hosts ≤ ahead turn old.hosts
 taken_ahead turn old new duty (place, next, begins) behind = omega (arith, taken_behind turn place duty old new (next_within old place next) begins behind)
 
--- who waited longest has its turn not behind another that isn't called
+-- the host that waited longest has its turn no later than another that isn't called
 not_behind : (one other : AtHost) → other.calls ≡ 0 → is_before other one ≡ false → nat_le one.turn other.turn ≡ true
 not_behind one other free is = grind (arith, free, is)
 
@@ -172,7 +172,7 @@ recalled_ahead turn hosts = passing_mapped (is_ahead turn) recalled (λ host. re
 pub forgotten_ahead : (turn : ℕ) (hosts : List AtHost) → ahead turn (filter is_kept hosts) ≤ ahead turn hosts
 forgotten_ahead turn hosts = passing_left (is_ahead turn) is_kept hosts
 
--- one turn more, where the host waits
+-- one more turn, while the host waits
 turn_more : (turn : ℕ) (now mid : Turns) (duty : Duty) (is_new : Bool) → is_newest_turn now ≡ is_new → IsWaiting turn now → IsTaken now mid (Some duty)
     → ahead turn mid.hosts + one_if (not is_new) ≤ ahead turn now.hosts
 turn_more turn now mid duty true is waits taken = omega (arith, taken_ahead turn now mid duty taken waits.came)
@@ -187,7 +187,7 @@ turn_more turn now mid duty false is waits (place, next, begins) =
 begun_new : (now mid : Turns) (duty : Duty) → IsTaken now mid (Some duty) → mid.is_for_new ≡ not now.is_for_new
 begun_new now mid duty (place, next, begins) = begins.for_new
 
--- each second turn is the newest's at most
+-- at most each second turn is that of the newest
 second : (for_new room : Bool) (count n m : ℕ) → count ≤ 2 * m + one_if (not for_new) → m + one_if (not (if for_new then room else false)) ≤ n → count + 1 ≤ 2 * n + one_if for_new
 second true true count n m rest one = omega (arith, rest, one)
 second true false count n m rest one = omega (arith, rest, one)

@@ -4,7 +4,7 @@ use Rattle.lra_turns.specs.Named.{AllKept}
 use Rattle.lra_turns.specs.Slips.{taken_back}
 use Rattle.lra_turns.proofs.calls.recall_each.Given as goal
 
--- those so far are taken back, and the others are as they were
+-- the slips so far are taken back, and the others are as they were
 abbrev pub invariant-loop-slip : goal.invariant-loop-slip
 invariant-loop-slip l = record {
   exact : l.slips ≡ map taken_back (take l.slip-index l.fn.slips) ++ drop l.slip-index l.fn.slips;

@@ -8,7 +8,7 @@ use Rattle.lra_turns.specs.Resuming.{IsFirstPause, IsResumed, ResumesFor}
 use Rattle.lra_turns.specs.declared.slip.Called.{Called}
 use Rattle.lra_turns.proofs.calls.resume_all.Given as goal
 
--- those so far are resumed, and the others are as they were
+-- the slips so far are resumed, and the others are as they were
 abbrev pub invariant-loop-slip : goal.invariant-loop-slip
 invariant-loop-slip l = record {
   named : (test : Duty → Bool) → AllKept test l.fn.slips → AllWaiting test l.fn.hosts.hosts → AllKept test l.slips × AllWaiting test l.hosts.hosts;

@@ -8,7 +8,7 @@ use Rattle.lra_turns.specs.declared.slip.Called.{Called}
 use Rattle.lra_turns.proofs.Puts.{IsFirstFew}
 use Rattle.lra_turns.proofs.calls.Calls.put_each.Given as goal
 
--- those so far named no other, and the rest are of the list; what those so far changed
+-- the duties so far named no other, and the rest are of the list; what the duties so far changed
 abbrev pub invariant-loop-duty : goal.invariant-loop-duty
 invariant-loop-duty l = record {
   named : (test : Duty → Bool) → AllNamed test l.fn.self → All (Passes test) l.fn.duties.items → AllNamed test l.self × All (Passes test) l.duty-iterator.rest.items;
