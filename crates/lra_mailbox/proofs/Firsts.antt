@@ -1,11 +1,11 @@
--- Which kind of task has its turn first after another.
+-- Which kind of task has its turn first after a given kind.
 use Rattle.std.proofs.Common.{◌≡◌, ◌≤◌, ◌<◌, ◌∙◌, ℕ, Bool, true, false, ap, arith, inl, inr, refl, subst, suc, sym, zero}
 use Rattle.std.proofs.lemmas.Bool.Decides.{eqb_tells, leb_tells}
 use Rattle.lra_mailbox.specs.Tasks.{IsFirstAfter, after, turns_to}
 use Rattle.lra_mailbox.specs.declared.turn.Turn.{Turn}
 use Rattle.lra_mailbox.specs.declared.turn.Turn.TheVariants.{OfChores, OfCount, OfDeadlines, OfDuties, OfErrand, OfLetters, OfTelling}
 
--- the kind whose turn is so many after another's
+-- the kind whose turn is n turns after another's
 nth : ℕ → Turn → Turn
 nth zero kind = kind
 nth (suc n) kind = after (nth n kind)
@@ -197,7 +197,7 @@ true_false : (b : Bool) → b ≡ true → b ≡ false → ⊥
 true_false true t f = cc
 true_false false t f = cc
 
--- of the kinds before so many turns there is no task
+-- for none of the kinds within this many turns there is a task
 abbrev NoneBefore : Turn → (Turn → Bool) → ℕ → Type 0
 NoneBefore last is_there k = (j : ℕ) → 1 ≤ j → j < k → is_there (nth j last) ≡ false
 

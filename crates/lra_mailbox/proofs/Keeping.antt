@@ -38,7 +38,7 @@ number_self a = grind arith
 same_self : (id : Id) → same_id id id ≡ true
 same_self id = both_true (id.home == id.home) (id.num == id.num) (number_self id.home) (number_self id.num)
 
--- statuses of one rank are one
+-- statuses of the same rank are the same
 of_rank : ℕ → LraStatus
 of_rank zero = Active
 of_rank (suc zero) = Closing
@@ -65,7 +65,7 @@ not_not : (b : Bool) → not b ≡ true → b ≡ false
 not_not true e = absurd cc
 not_not false e = refl
 
--- one more sight, of another and of the same
+-- one more sight, of another LRA and of the same one
 other_sight : (sight : Sight) (sights : List Sight) (root : Root) → same_id root.id sight.id ≡ false → IsSince sights root → IsSince (sight ∷ sights) root
 other_sight sight sights root differs is =
     subst (λ (b : Bool). MatchBool b ((sight.seen ≡ root.seen) × ((sight.now ≡ root.since) ⊎ IsSeenSince root.id root.seen root.since sights)) (IsSeenSince root.id root.seen root.since sights))
@@ -76,7 +76,7 @@ same_sight sight sights root same seen is =
     subst (λ (b : Bool). MatchBool b ((sight.seen ≡ root.seen) × ((sight.now ≡ root.since) ⊎ IsSeenSince root.id root.seen root.since sights)) (IsSeenSince root.id root.seen root.since sights))
     (sym same) (seen, is)
 
--- what isn't the one that is seen is as it was
+-- an LRA other than the one that is seen is as it was
 dropped_since : (sight : Sight) (sights : List Sight) (ended : List Root) → AreSince sights ended → AreSince (sight ∷ sights) (without sight.id ended)
 dropped_since sight sights ended all =
     let p = λ (root : Root). not (same_id root.id sight.id) in
@@ -84,7 +84,7 @@ dropped_since sight sights ended all =
     let kept = All-filter p (λ (root : Root). p root ≡ true → IsSince (sight ∷ sights) root) ended if_other in
     λ place d within. kept place d within (filter_passes p ended place d within)
 
--- one that is seen, by two tests
+-- the LRA that is seen, by two tests
 seen_since_by : (now : Duration) (id : Id) (seen : LraStatus) (sights : List Sight) (root : Root) (is_it is_same : Bool) → same_id root.id id ≡ is_it → same_status root.seen seen ≡ is_same
     → IsSince sights root → IsSince (record { now = now; id = id; seen = seen } ∷ sights) (if is_it then (if is_same then found root else newcomer root.id seen now) else root)
 seen_since_by now id seen sights root true true it same is = same_sight (record { now = now; id = id; seen = seen }) sights (found root) it (status_is root.seen seen same) (inr is)
@@ -101,7 +101,7 @@ unless : (b any : Bool) → (b ≡ true → any ≡ true) → any ≡ false → 
 unless true any some none = sym (some refl) ∙ none
 unless false any some none = refl
 
--- none of those that are remembered is the one that is seen
+-- the LRA that is seen is none of those that are remembered
 none_seen : (sight : Sight) (sights : List Sight) (ended : List Root) → list_any (is_root sight.id) ended ≡ false → AreSince sights ended → AreSince (sight ∷ sights) ended
 none_seen sight sights ended none all = λ place d within.
     other_sight sight sights (get_or ended place d)
@@ -139,7 +139,7 @@ pub seen_is_since : (now : Duration) (id : Id) (shown seen : LraStatus) (sights 
     → AreSince (sights_after now id seen old sights) new.ended
 seen_is_since now id shown seen sights old new is all = sight_since now id shown seen sights old new old.looks (id.home == old.number) is all
 
--- what else comes changes nothing of that
+-- nothing else changes that
 turned_by : (sights : List Sight) (s : Sweeps) (ends : Bool) → AreSince sights s.ended → AreSince sights (if ends then looked s else s).ended
 turned_by sights s true all = All-filter is_found (IsSince sights) s.ended all
 turned_by sights s false all = all
@@ -147,7 +147,7 @@ turned_by sights s false all = all
 pub turned_since : (more : Bool) (sights : List Sight) (s : Sweeps) → AreSince sights s.ended → AreSince sights (turned more s).ended
 turned_since more sights s all = turned_by sights s (s.looks && not more) all
 
--- when a purge is tried says nothing of since when a root shows what it shows
+-- when a purge is tried again doesn't change since when a root shows what it shows
 off_since : (sights : List Sight) (id : Id) (purged : Purged) (now : Duration) (root : Root) → IsSince sights root → IsSince sights (put_off_if id purged now root)
 off_since sights id purged now root is = by (same_id root.id id)
   where
@@ -231,7 +231,7 @@ lists_since now beyond sights old new is all = by_look old.looks is.2
     by_look true same = subst (λ (s : Sweeps). AreSince sights s.ended) (sym same) all
     by_look false begins = subst (λ (s : Sweeps). AreSince sights s.ended) (sym begins.2) (All-map (IsSince sights) unfound old.ended all)
 
--- what is due is purged, where no look goes on
+-- what is due is purged, if no look is under way
 pub due_is_purged : (now : Duration) (root : Root) (old new : Sweeps) (chore : Option Chore) → sweeps old ≡ true → old.looks ≡ false → first_due old.keep now old.ended ≡ Some root → IsNextChore now old new chore
     → chore ≡ Some (Purge (kept_of root))
 due_is_purged now root old new None does ends first is = absurd cc
@@ -249,7 +249,7 @@ due_is_purged now root old new (Some (Purge kept)) does ends first is = ap (λ (
     same_kept None e is = absurd cc
     same_kept (Some other) e is = cc
 
--- a look goes on beyond the last LRA that it was told of
+-- a look goes on beyond the last LRA that it was shown
 noted_beyond : (time : Option ℕ) (now : Duration) (id : Id) (seen : LraStatus) (old new : Sweeps) → NotesFor time now id seen old new → new.beyond ≡ old.beyond
 noted_beyond None now id seen old new is = ap (λ (s : Sweeps). s.beyond) is
 noted_beyond (Some time) now id seen old new is = by (list_any (is_root id) old.ended) is
@@ -301,7 +301,7 @@ goes_on now later id shown seen old new next (Some (Purge kept)) saw does looks 
 pub pauses_within : (pause : ℕ) → (FIRST_PAUSE_MS ≤ next_pause pause) × (next_pause pause ≤ LAST_PAUSE_MS)
 pauses_within pause = (omega arith, omega arith)
 
--- the first that is to be purged is one of those that are remembered, and is to be
+-- the first root that is to be purged is one of those remembered, and is due
 first_is : (keep : Keep) (now : Duration) (P : Root → Type 0) (ended : List Root) (root : Root) → first_due keep now ended ≡ Some root → All P ended → P root × (is_due keep now root ≡ true)
 first_is keep now P [] root e all = absurd cc
 first_is keep now P (x ∷ rest) root e all =
@@ -312,7 +312,7 @@ first_is keep now P (x ∷ rest) root e all =
     one_of true due is here later = let same : x ≡ root = cc in (subst P same here, subst (λ (r : Root). is_due keep now r ≡ true) same due)
     one_of false due is here later = later is
 
--- one that is purged was kept
+-- a root that is purged was kept long enough
 kept_for : (keep : Keep) (now : Duration) (kept : Kept) (sights : List Sight) (since : Duration) (time : Option ℕ) → time_of keep kept.seen ≡ time
     → is_kept_for time (as_nanos now - as_nanos since) ≡ true → IsSeenSince kept.root kept.seen since sights → WasKept keep now kept sights
 kept_for keep now kept sights since None e ripe is = absurd cc
@@ -340,7 +340,7 @@ due_was_kept keep now kept sights ended (Some root) e is all =
 pub purges_kept : (now : Duration) (kept : Kept) (sights : List Sight) (old new : Sweeps) → IsNextChore now old new (Some (Purge kept)) → AreSince sights old.ended → WasKept old.keep now kept sights × (new ≡ old)
 purges_kept now kept sights old new is all = (due_was_kept old.keep now kept sights old.ended (first_due old.keep now old.ended) refl is.2 all, is.3)
 
--- one that showed this whenever it was seen since shows this
+-- a root that showed this whenever it was seen since then shows this
 last_is : (id : Id) (seen : LraStatus) (since : Duration) (sights : List Sight) → IsSeenSince id seen since sights → last_seen id sights ≡ Some seen
 last_is id seen since [] is = absurd is
 last_is id seen since (sight ∷ sights) is = last_by id seen since sight sights (same_id id sight.id) (last_is id seen since sights) is

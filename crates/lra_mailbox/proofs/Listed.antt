@@ -1,4 +1,4 @@
--- Nobody is called by a list for what was heard since it was asked for.
+-- No participant is called by a list for what was learned since the list was asked for.
 use Rattle.std.proofs.Common.{◌≡◌, ◌⊎◌, ◌++◌, ◌∷◌, ◌||◌, [], Bool, List, MatchBool, Option, None, Some, ap, false, inl, inr, refl, subst, sym, true}
 use Rattle.std.proofs.lemmas.List.Elements.{All-nil, filter_passes}
 use Rattle.std.specs.List.{list_any}
@@ -35,7 +35,7 @@ any_more : (p : Called → Bool) (xs : List Called) (x : Called) → list_any p 
 any_more p [] x e = absurd cc
 any_more p (y ∷ ys) x e = or_more (p y) _ _ (any_more p ys x) e
 
--- who is also heard is noted, and who was still is
+-- a participant that is also heard from is marked, and those already marked stay so
 also : (was : Bool) (who : Called) (old new : Since) → was_heard old.heard who ≡ was
     → MatchBool was (new ≡ old) ((new ≡ record old { heard = old.heard ++ who ∷ [] }) ⊎ (new ≡ record old { is_whole = false })) → IsHeardIn who new
 also true who old new e is = subst (IsHeardIn who) (sym is) (inl e)
@@ -64,7 +64,7 @@ paused Forgot who one mid new waits is noted = subst (IsHeardIn one) (sym is.0) 
 paused Told who one mid new waits is noted = subst (IsHeardIn one) (sym is.0) noted
 paused Again who one mid new waits is noted = subst (IsHeardIn one) (sym is.0) noted
 
--- an answer that is entered
+-- an answer that is recorded
 answer_noted : (is_out : Bool) (heard : Heard) (who : Called) (old new : Since) (waits : Bool) → is_out ≡ true
     → MatchBool is_out (IsAnswerNoted heard who old new waits) ((new ≡ old) × (waits ≡ false)) → IsHeardIn who new
 answer_noted true heard who old new waits e is = paused heard who who is.mentioned new waits is.pause (also (was_heard old.heard who) who old is.mentioned refl is.mentions)
@@ -82,7 +82,7 @@ answered said now old new out is = answer_noted old.since.is_out said.heard (cal
 pub answered_stays : (one : Called) (said : Said) (now : Duration) (old new : Mail) → IsNoted said now old new → IsHeardIn one old.since → IsHeardIn one new.since
 answered_stays one said now old new is before = answer_stays old.since.is_out said.heard (called_of said.duty) one old.since new.since is.waits is.noted before
 
--- what was said of somebody
+-- what was said about a participant
 mention_noted : (is_out : Bool) (who : Called) (old new : Since) → is_out ≡ true → MatchBool is_out (IsAlsoHeard who old new) (new ≡ old) → IsHeardIn who new
 mention_noted true who old new e is = also (was_heard old.heard who) who old new refl is
 mention_noted false who old new e is = absurd cc
@@ -102,7 +102,7 @@ mentions_stay (Some who) one old new is before = mention_stays old.is_out who on
 pub said_stays : (noted : Noted) (one : Called) (now : Duration) (old new : Mail) → Notes noted now old new → IsHeardIn one old.since → IsHeardIn one new.since
 said_stays noted one now old new is before = mentions_stay noted.heard one old.since new.since is.heard before
 
--- who pauses is named for nothing else
+-- a participant that pauses is named for nothing else
 names_on : (test : Duty → Bool) (now : Duration) (busy : List Called) (old new : Calling) → PausesEach now busy old new → AllNamed test old → AllNamed test new
 names_on test now [] old new is named = subst (AllNamed test) (sym is) named
 names_on test now (who ∷ rest) old new is named = names_on test now rest is.0 new is.3 (is.2 test named (All-nil (Passes test)))

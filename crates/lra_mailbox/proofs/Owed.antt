@@ -1,4 +1,4 @@
--- Who is answered lacks none of its own facts that it told here.
+-- A node that is answered lacks none of its own facts that it sent here.
 use Rattle.std.proofs.Common.{◌≡◌, ◌≢◌, ◌⊎◌, ◌≤◌, ◌<◌, ◌-◌, ◌+◌, ◌&&◌, ◌==◌, ℕ, Bool, true, false, List, arith, if◌then◌else◌, inl, inr, length, refl, sym}
 use Rattle.std.specs.Prelude.{max, min, nat_le, nat_lt, slice_set}
 use Rattle.std.proofs.lemmas.Bool.{cases_eq}
@@ -12,20 +12,20 @@ use Rattle.lra_mailbox.specs.declared.known.Known.{Known}
 one_is : (asks told known : ℕ) → (nat_lt asks told && nat_lt known told) ≡ false → (told ≤ asks) ⊎ (told ≤ known)
 one_is asks told known e = grind (arith, nat_tests)
 
--- one that holds, where more was told
+-- a test of both that still holds once more was sent
 both_are : (asks told more known : ℕ) → told ≤ more → (nat_lt asks told && nat_lt known told) ≡ true → (nat_lt asks more && nat_lt known more) ≡ true
 both_are asks told more known up e = grind (arith, nat_tests)
 
 in_range : (other a b : ℕ) → 1 ≤ other → (nat_le other a && nat_le other b) ≡ true → other - 1 < a
 in_range other a b some e = grind (arith, nat_tests)
 
--- what it told is untaken
+-- what the node sent is untaken
 is_set : (from value : ℕ) (counts : List ℕ) (size : ℕ) (fits : Bool) → 1 ≤ from → fits ≡ true → (nat_le from (length counts) && nat_le from size) ≡ true
     → count (set_if fits from value counts) from ≡ value
 is_set from value counts size true some e there = get_or-set_same counts (from - 1) value 0 (in_range from (length counts) size some there)
 is_set from value counts size false some e there = absurd cc
 
--- what was untaken still is, where it isn't set lower
+-- what was untaken still is, unless it is set lower
 still : (from other value : ℕ) (counts : List ℕ) (size : ℕ) (fits : Bool) → 1 ≤ from → 1 ≤ other → (nat_le other (length counts) && nat_le other size) ≡ fits
     → (from ≡ other → count counts from ≤ value) → count counts from ≤ count (set_if fits other value counts) from
 still from other value counts size false some more e up = omega arith

@@ -1,4 +1,4 @@
--- That nothing of the node's own is entered before the others are heard.
+-- Nothing of the node's own is stored before the others are heard from.
 use Rattle.std.proofs.Common.{◌≡◌, ◌&&◌, ◌∙◌, Bool, true, false, MatchBool, Option, None, Some, ap, not, refl, subst, sym}
 use Rattle.std.proofs.lemmas.Bool.{and_left}
 use Rattle.std.specs.declared.time.Duration.{Duration}

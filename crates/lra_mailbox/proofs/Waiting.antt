@@ -1,4 +1,4 @@
--- That a wait is over when there is a task.
+-- A wait is over when there is a task.
 use Rattle.std.proofs.Common.{◌≡◌, ◌≤◌, ◌⊎◌, ◌&&◌, ◌||◌, ◌∙◌, ℕ, Bool, true, false, Option, None, Some, arith, inl, inr, not, refl, subst, sym}
 use Rattle.std.proofs.lemmas.Bool.{leb-true, ltb-false, ltb-true}
 use Rattle.std.specs.Duration.{as_nanos}
@@ -70,7 +70,7 @@ resumed : (resumes : Option Duration) (at : Duration) → as_nanos (earlier resu
 resumed None at = omega arith
 resumed (Some one) at = (first_if one at (nat_lt (as_nanos at) (as_nanos one)) refl).1
 
--- where deadlines are looked at, and where facts are counted
+-- when deadlines are checked, and when facts are counted
 looks : (m : Mail) (later : Duration) → m.opening.is_open ≡ true → as_nanos m.asking.ticks_at ≤ as_nanos later → as_nanos (looks_at m) ≤ as_nanos later
 looks m later is_open le = subst (λ (b : Bool). as_nanos (if b then m.asking.ticks_at else that_or m.opening.opens_at m.asking.ticks_at) ≤ as_nanos later) (sym is_open) le
 
@@ -82,7 +82,7 @@ counted : (is_to_count : Bool) (at counts_at later : Duration) → is_to_count �
 counted true at counts_at later is le = let e = (first at counts_at).1 in omega (arith, e, le)
 counted false at counts_at later is le = absurd cc
 
--- where something is entered later that isn't now, the journal is spared now
+-- if something is stored later that isn't now, the journal is spared now
 not_entered : (is_open spared b : Bool) → is_open ≡ true → spared ≡ false → b ≡ true → ((is_open && not spared) && b) ≡ false → ⊥
 not_entered true false true o s e n = absurd cc
 not_entered true true b o s e n = absurd cc
@@ -94,17 +94,17 @@ not_taken false true s e n = absurd cc
 not_taken true b s e n = absurd cc
 not_taken false false s e n = absurd cc
 
--- when there is something to do by itself, where the journal isn't spared
+-- when the next timer fires, unless the journal is spared
 abbrev unheld : Mail → Duration
 unheld m = if m.known.is_to_count then earlier_of (looks_at m) m.known.counts_at else looks_at m
 
--- where the journal is spared, until it isn't
+-- if the journal is spared, until it isn't
 next_if : (m : Mail) (later : Duration) (spared : Bool) → is_spared later m ≡ false → (spared ≡ false → as_nanos (unheld m) ≤ as_nanos later)
     → as_nanos (if spared then m.held_until else unheld m) ≤ as_nanos later
 next_if m later true free or_else = ltb-false (as_nanos later) (as_nanos m.held_until) free
 next_if m later false free or_else = or_else refl
 
--- of a kind that has to do with what is entered
+-- for a kind of task that stores something
 entered_by : (m : Mail) (now later : Duration) (b : Bool) → (may_enter now m && b) ≡ false → (may_enter later m && b) ≡ true → as_nanos (next_at now m) ≤ as_nanos later
 entered_by m now later b none some =
     let h = both (may_enter later m) b some in
