@@ -1,4 +1,4 @@
--- What holds of a state whichever way a step goes.
+-- What holds for a state whichever way a step goes.
 use Rattle.std.proofs.Common.{◌≡◌, Bool, true, false, refl}
 use Rattle.std.specs.Prelude.{if◌then◌else◌}
 use Rattle.lra_copies.specs.Spreads.{Spread, with_shortage}

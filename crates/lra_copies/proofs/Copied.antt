@@ -12,17 +12,17 @@ use Rattle.lra_copies.specs.declared.mark.Mark.{Mark}
 use Rattle.lra_copies.specs.declared.others.Others.{Others}
 use Rattle.lra_copies.proofs.Cases.{either, either_way}
 
--- a mark is of a frame that was given, which isn't of the last ticket
+-- a mark is of a frame that was given, and its ticket isn't the last
 pub record IsGiven (steps : List Step) (mark : Mark) : Type 0 where
   pub given : Contains steps (Gives mark)
   pub below : mark.ticket < last_ticket
 
--- the covered ticket is none, or was copied
+-- there is no covered ticket, or it was copied
 pub record IsSound (steps : List Step) (start : Spread) (ticket : ℕ) : Type 0 where
   pub below : ticket < last_ticket
   pub copied : (ticket ≡ 0) ⊎ WasCopied ticket steps start
 
--- what is so of a state
+-- what holds for a state
 abbrev pub Is : List Step → Spread → Spread → Type 0
 Is steps start s =
     (s.others.me ≡ start.others.me) × (s.others.wanted ≡ start.others.wanted) × All (IsGiven steps) s.marks × IsSound steps start s.covered
@@ -57,7 +57,7 @@ gives mark steps s true e all =
     All-push (IsGiven (Gives mark ∷ steps)) (take (MAX_MARKS - 1) s.marks) mark (All-take (IsGiven (Gives mark ∷ steps)) (MAX_MARKS - 1) s.marks all) new
 gives mark steps s false e all = all
 
--- the greatest ticket that is copied is of one of the marks
+-- the greatest ticket that is copied is that of one of the marks
 abbrev IsOf : Others → (Mark → Type 0) → ℕ → Type 0
 IsOf others P ticket = (ticket ≡ 0) ⊎ ((mark : Mark) × P mark × (is_copied others mark ≡ true) × (mark.ticket ≡ ticket))
 
@@ -79,11 +79,11 @@ greatest_is others P [] all = inl refl
 greatest_is others P (mark ∷ marks) all =
     with_one others P mark marks (is_copied others mark) refl (All-head P mark marks all) (greatest_is others P marks (All-tail P mark marks all))
 
--- another node tells
+-- another node states what it has
 is_settled : (other count : ℕ) (now : Duration) (s : Spread) → is_other other s.others ≡ true → heard other count now s ≡ settled now (told_by other count s)
 is_settled other count now s e = rw e refl
 
--- one that was copied then
+-- a mark that was copied then
 copied_then : (other count : ℕ) (now : Duration) (steps : List Step) (start : Spread) (mark : Mark) (ticket : ℕ)
     → is_other other (after_all steps start).others ≡ true
     → (after_all steps start).others.me ≡ start.others.me → (after_all steps start).others.wanted ≡ start.others.wanted
@@ -106,7 +106,7 @@ copied_then other count now steps start mark ticket e me wanted given copied is 
       told = subst (λ (told : List ℕ). start.others.wanted ≤ holders start.others.me mark.count told) now_is by_start;
     }
 
--- the covered ticket with one that is copied now
+-- the covered ticket, and one that is copied now
 sound : (other count : ℕ) (now : Duration) (steps : List Step) (start : Spread) (covered ticket : ℕ)
     → is_other other (after_all steps start).others ≡ true
     → (after_all steps start).others.me ≡ start.others.me → (after_all steps start).others.wanted ≡ start.others.wanted

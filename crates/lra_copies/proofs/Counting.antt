@@ -1,9 +1,9 @@
--- How many of the nodes behind a place are so.
+-- How many of the nodes behind a place pass.
 use Rattle.std.proofs.Common.{◌≡◌, ◌<◌, ◌-◌, ◌+◌, ℕ, Bool, true, false, suc, arith, ap, length, ◌∙◌}
 use Rattle.std.specs.Prelude.{filter, if◌then◌else◌}
 use Rattle.std.specs.List.{range_with_len}
 
--- how many of n numbers from a on are so
+-- how many of n numbers from a on pass
 abbrev pub number_of : (ℕ → Bool) → (a n : ℕ) → ℕ
 number_of p a n = length (filter p (range_with_len a n))
 

@@ -1,4 +1,4 @@
--- One that holds no pull isn't asked in a rush, and each other is asked again.
+-- A node that holds no pull isn't asked in a rush, and each other node is asked again.
 use Rattle.std.proofs.Common.{◌≡◌, ◌≤◌, ◌+◌, ◌*◌, ◌++◌, ◌∷◌, [], ℕ, Bool, List, true, false, suc, zero, arith, if◌then◌else◌, refl}
 use Rattle.std.proofs.lemmas.Bool.Decides.{nat_tests}
 use Rattle.std.specs.Prelude.{◌||◌, All, min, nat_lt, replicate}
@@ -46,7 +46,7 @@ rounds : (earlier : List Came) → 100 ≤ (behind_all earlier).round_ms
 rounds [] = omega arith
 rounds (came ∷ earlier) = long_enough came.pulled (behind_all earlier).round_ms (rounds earlier)
 
--- behind one more than so many that came to nothing at once
+-- after more than this many pulls that brought nothing at once
 record Rushes (more : ℕ) (p : NextPull) : Type 0 where
   waits : p.waits ≡ true
   holds : p.holds ≡ false
@@ -73,7 +73,7 @@ goes_on more p h = record {
   long = omega (arith, h.long);
 }
 
--- so many and one more
+-- this many and one more
 row : (more : ℕ) (earlier : List Came) → All HoldsNone earlier → Rushes more (behind_all (replicate (suc more) nothing_at_once ++ earlier))
 row zero earlier none = begins (behind_all earlier) (unheld earlier none) (rounds earlier)
 row (suc more) earlier none = goes_on more (behind_all (replicate (suc more) nothing_at_once ++ earlier)) (row more earlier none)
@@ -99,7 +99,7 @@ in_a_row zero earlier many none = absurd (omega (arith, many))
 in_a_row (suc zero) earlier many none = absurd (omega (arith, many))
 in_a_row (suc (suc more)) earlier many none = no_rush more earlier (omega (arith, many)) none
 
--- what holds of a number whichever it is
+-- what holds for a number whichever it is
 either : (P : ℕ → Type 0) (b : Bool) (x y : ℕ) → P x → P y → P (if b then x else y)
 either P true x y so not_ = so
 either P false x y so not_ = not_
@@ -139,7 +139,7 @@ again pulled held asks p =
       either (λ n. n ≤ 5_000) (at_once || is_soon pulled (holds_after pulled held asks p.holds) (hasty_after at_once p.hasty)) 0 round (omega arith) short,
     )
 
--- one that is known to hold pulls is asked soon, though it held none now
+-- a node that is known to hold pulls is asked soon, even if it held none now
 soon : (at_once holds : Bool) → holds ≡ true → (hasty round : ℕ) → (if at_once || (holds || nat_lt hasty 32) then 0 else round) ≡ 0
 soon true holds e hasty round = refl
 soon false true e hasty round = refl
@@ -163,7 +163,7 @@ or_asks false = refl
 pub known : (held asks : Bool) (p : NextPull) → p.holds ≡ true → ((behind Nothing held asks p).pause_ms ≤ 50) × ((behind Nothing held asks p).wait_ms ≡ 0)
 known held asks p holds = soon_after held asks p (still held asks p.holds holds)
 
--- one that held this one is asked at once
+-- a node that held this pull is asked at once
 held_one : (holds asks : Bool) → ((holds || true) || asks) ≡ true
 held_one true asks = refl
 held_one false asks = refl
@@ -172,7 +172,7 @@ pub held : (asks : Bool) (p : NextPull)
     → ((behind Nothing true asks p).pause_ms ≡ 0) × ((behind Nothing true asks p).wait_ms ≡ 0) × ((behind Nothing true asks p).holds ≡ true)
 held asks p = (refl, refl, held_one p.holds asks)
 
--- and so is one that asks by pulls that wait
+-- and so is a node that asks by pulls that wait
 pub listens : (held : Bool) (p : NextPull)
     → ((behind Nothing held true p).pause_ms ≤ 50) × ((behind Nothing held true p).wait_ms ≡ 0) × ((behind Nothing held true p).holds ≡ true)
 listens held p =

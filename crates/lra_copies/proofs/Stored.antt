@@ -26,7 +26,7 @@ came_later node later between earlier some is =
     let order = in_order between earlier Asks (Ends true) (at_start node) refl first (omega (arith, is, below)) second in
     not_covered s.others.wanted fact s.covered (omega (arith, some, sound.1)) (omega (arith, is, order))
 
--- for what one may have to wait is kept or raised, up to the last ticket
+-- the ticket that may have to be waited for is kept or raised, up to the last ticket
 abbrev pub IsKept : (old new : Spread) → Type 0
 IsKept old new = (old.stored ≤ new.stored) × (new.stored ≤ new.drawn)
 

@@ -1,4 +1,4 @@
--- What a node told last is what it is known to have.
+-- What a node stated last is what it is known to have.
 use Rattle.std.proofs.Common.{◌≡◌, ◌≢◌, ◌≤◌, ◌⊎◌, ◌-◌, ◌∷◌, ◌∙◌, [], ℕ, List, true, false, ap, arith, if◌then◌else◌, inl, inr, length, refl}
 use Rattle.std.specs.Prelude.{◌&&◌, ◌==◌, nat_le, nat_lt, not, slice_set}
 use Rattle.std.specs.declared.time.Duration.{Duration}
@@ -10,11 +10,11 @@ use Rattle.lra_copies.specs.Spreads.{Spread, acknowledged, drawn_to_wait, is_ent
 use Rattle.lra_copies.specs.Steps.{Asks, Begins, Ends, Gives, Hears, Learns, Looks, Node, Stands, Step, after, after_all, at_start, last_told}
 use Rattle.lra_copies.proofs.Cases.{either, either_way}
 
--- what is so of a state, of a node of so many that told of so many facts last
+-- what holds for a state: of this many nodes, this node stated this many facts last
 abbrev pub Tells : (me nodes node told : ℕ) → Spread → Type 0
 Tells me nodes node told s = (s.others.me ≡ me) × (length s.others.told ≡ nodes) × (count s.others.told node ≡ told)
 
--- one that is no other isn't this one
+-- a node that isn't another node isn't this one
 no_other : (other me size node nodes : ℕ) → (nat_lt 0 other && (not (other == me) && nat_le other size)) ≡ false → 1 ≤ node → node ≤ nodes → size ≡ nodes → node ≢ me
     → (other == node) ≡ false
 no_other other me size node nodes e some few is apart = grind (arith, nat_tests)

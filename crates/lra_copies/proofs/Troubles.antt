@@ -1,4 +1,4 @@
--- What is wrong with another node is told once.
+-- A trouble with another node is logged once.
 use Rattle.std.proofs.Common.{◌≡◌, ◌≤◌, ◌+◌, ◌∷◌, [], Bool, List, true, false, arith, refl}
 use Rattle.std.specs.Prelude.{◌&&◌, ◌||◌, not}
 use Rattle.std.specs.Duration.{as_nanos}
