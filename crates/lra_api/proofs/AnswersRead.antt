@@ -68,7 +68,7 @@ pub record IsCode (code : ℕ) : Type 0 where
   pub bodied : is_bare code ≡ false
   pub short : length (status_line code) ≤ 100
 
--- a field that may stand before those of the body
+-- a field that may come before those of the body
 abbrev pub IsFirst : AnswerField → Type 0
 IsFirst Allow = Unit {0}
 IsFirst Action = Unit {0}

@@ -1,4 +1,4 @@
--- The JSON object that a body is, by what the reader of JSON answered.
+-- The JSON object that a body is, by what the JSON reader returned.
 use Rattle.std.proofs.Common.{◌≡◌, List, ℕ, Bool, true, false, Some, None, is_some, IsUtf8, refl, option_and_then, if◌then◌else◌}
 use Rattle.std.specs.Str.{is_utf8}
 use Rattle.std.proofs.lemmas.Str.{IsUtf8-from_is_utf8, is_utf8-from_IsUtf8}

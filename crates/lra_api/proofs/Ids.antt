@@ -1,4 +1,4 @@
--- A text is one id or none.
+-- A text is one id or no id.
 use Rattle.std.proofs.Common.{if◌then◌else◌, ◌≡◌, ◌==◌, ℕ, ◌+◌, ◌*◌, ◌^◌, ◌%◌, ◌<◌, ◌≤◌, Bool, true, false, List, codes, drop, length, take, Option, Some, None, option_and_then, ap, sym, ◌∙◌, refl, arith, subst, not, nat_le, nat_lt, ◌&&◌, ◌||◌, slice_index}
 use Rattle.std.proofs.lemmas.Slice.Eq.{bytes_eq-Decides}
 use Rattle.std.proofs.lemmas.Bool.{eqb-true}
@@ -55,7 +55,7 @@ pub id_of_text : (text : List ℕ) (id : Id) → IsId id → IsTextOf text id �
 unfolding id_of
 id_of_text text id valid is = rw (prefix_of text is.prefix, is.bytes) (id_in_layout id valid)
 
--- Where a text is the text of none, it is no id
+-- A text that is the text of no id is read as no id
 
 test_le : (a b : ℕ) → nat_le a b ≡ true → a ≤ b
 test_le a b h = grind (arith, nat_tests)

@@ -1,4 +1,4 @@
--- What is said of a wrong body stands in a JSON string as it is.
+-- What is said about a wrong body needs no escapes in a JSON string.
 use Rattle.std.specs.Prelude.{⊤, nat_le, not, option_and_then}
 use Rattle.std.proofs.Common.{◌≡◌, ◌==◌, ◌&&◌, ◌||◌, ◌∙◌, ℕ, Bool, true, false, List, [], ◌∷◌, ◌++◌, codes, length, Option, Some, None, ap, arith, refl, subst, if◌then◌else◌}
 use Rattle.std.specs.Char.{is_ascii_alphanumeric}

@@ -1,4 +1,4 @@
--- What a client reads of an answer tells what was replied.
+-- What a client reads from an answer determines the reply.
 use Rattle.std.proofs.Common.{◌≡◌, ◌∙◌, ℕ, ◌<◌, ◌^◌, List, [], ◌∷◌, ◌++◌, All, Some, codes, length, take, drop, inl, ap, sym, refl, arith, if◌then◌else◌}
 use Rattle.std.specs.Fmt.{decimal}
 use Rattle.std.specs.Str.{bytes_eq}
@@ -21,7 +21,7 @@ use Rattle.lra_api.specs.Texts.{member_body, of_lra, of_status, recovery_path, s
 use Rattle.lra_api.proofs.Ids.{id_at_layout}
 use Rattle.lra_api.specs.Names.{id_at}
 
--- Texts that start with parts of one length
+-- Texts that begin with parts of the same length
 
 same_start : (n : ℕ) (xs us ys vs : List ℕ) → length xs ≡ n → length us ≡ n → xs ++ ys ≡ us ++ vs → xs ≡ us
 same_start n xs us ys vs p q e = sym (take_at xs ys n p) ∙ ap (take n) e ∙ take_at us vs n q
@@ -50,7 +50,7 @@ urn_told : (a b : Id) → IsId a → IsId b → urn a ≡ urn b → a ≡ b
 unfolding urn
 urn_told a b p q e = text_told a b p q (append_cancel_left (codes "urn:uuid:") (text_of a) (text_of b) e)
 
--- an id, and what stands behind it
+-- an id, and what follows it
 id_told : (a b : Id) (r s : List ℕ) → IsId a → IsId b → text_of a ++ r ≡ text_of b ++ s → (a ≡ b) × (r ≡ s)
 id_told a b r s p q e =
     (text_told a b p q (same_start 36 (text_of a) (text_of b) r s (text_length a) (text_length b) e), same_rest 36 (text_of a) (text_of b) r s (text_length a) (text_length b) e)
@@ -119,7 +119,7 @@ status_told a b x y p q e =
     let both = lra_told a b (of_status (lra_name x)) (of_status (lra_name y)) p q e in
     (both.0, sym (lra_back x) ∙ ap lra_named (name_told _ _ both.1) ∙ lra_back y)
 
--- behind a number that both have
+-- behind a number that both texts have
 shown_behind : (m : ℕ) (x y : List ℕ) → codes ",\"member\":" ++ (decimal m ++ of_status x) ≡ codes ",\"member\":" ++ (decimal m ++ of_status y) → x ≡ y
 shown_behind m x y e = name_told x y (append_cancel_left (decimal m) _ _ (append_cancel_left (codes ",\"member\":") _ _ e))
 

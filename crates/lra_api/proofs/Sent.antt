@@ -1,4 +1,4 @@
--- What was written, by what the writing of a response came to.
+-- What was written, given the result of writing a response.
 use Rattle.std.specs.Prelude.{⊤}
 use Rattle.std.proofs.Common.{◌≡◌, ◌+◌, ℕ, List, length, inl, inr, Option, Some, None, Result, Ok, Err, OnOk, OnErr, subst}
 use Rattle.lra_facts.specs.declared.refusal.Refusal.{Refusal}
@@ -17,7 +17,7 @@ use Rattle.lra_book.specs.declared.calls.Call.{Call}
 use Rattle.lra_book.specs.declared.calls.Reply.{Reply}
 use Rattle.lra_api.specs.declared.serving.ServeError.{ServeError}
 
--- the writing of E17's text, however it came out
+-- the writing of E17's text, whatever its result
 pub no_memory_written : {W : Type 0} (sink : OfSink W) (old new : W) (response : Response) (r : Result ⊤ Fault)
     → response ≡ refusal_answer NoMemory
     → OnOk r (Takes (sink.stream old) (sink.stream new) (response_text response) × IsFlushed (sink.stream new))
@@ -37,7 +37,7 @@ no_memory_written sink old new response (Err fault.BodyTooLong) is ok part strea
 no_memory_written sink old new response (Err fault.LengthNeeded) is ok part streams = absurd streams
 no_memory_written sink old new response (Err fault.NotOffered) is ok part streams = absurd streams
 
--- where the memory was refused before any call, it doesn't matter what was asked for
+-- if the memory was refused before any call, it doesn't matter what was asked for
 pub no_memory_served : {W : Type 0} (same : Type 0) (makes : Call → Result Reply Refusal → Type 0) (sink : OfSink W) (old new : W)
     (right : Result Call Unrouted) (result : Result ⊤ ServeError)
     → same → EndsNoMemory sink old new None result → ServesRequest same makes sink old new right result
@@ -59,7 +59,7 @@ explained same makes sink old new shown text why right result s is wrong ends =
     subst (λ (w : Option (List ℕ)). ServesUnless w same makes sink old new right result) wrong
     (s, subst (λ (t : List ℕ). Ends sink old new (why_answer t) None result) is ends)
 
--- the answer to what came of a call
+-- the answer to the result of a call
 pub replied : {W : Type 0} (makes : Result Reply Refusal → Type 0) (sink : OfSink W) (old new : W) (seen reply : Reply) (result : Result ⊤ ServeError)
     → makes (Ok reply) → seen ≡ reply → Ends sink old new (answer_of seen) None result → ServesCall makes sink old new result
 replied makes sink old new seen reply result made is ends = (Ok reply, made, subst (λ (r : Reply). Ends sink old new (answer_of r) None result) is ends)

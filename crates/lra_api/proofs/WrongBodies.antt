@@ -44,7 +44,7 @@ begin_by now (Some parent) (Some limit) = late_or_not parent (deadline_of now li
 begin_refused : (now : ℕ) (o : Data) → is_some (begin_fault now o) ≡ is_none (begin_with (parent_by o) (deadline_by now o))
 begin_refused now o = begin_by now (parent_by o) (limit_in (get (codes "limit") o))
 
--- Those of a join
+-- The members of a join
 
 abbrev Text : Type 0
 Text = Option (List ℕ)
@@ -81,7 +81,7 @@ links_refused None None (Some s) f (Some a) = refl
 links_refused None None None (Some f) (Some a) = refl
 links_refused None None None None (Some a) = all_links (Some None) (Some None) (Some None) (Some None) (kept_if_given (Some a))
 
--- the texts, where each of them is one
+-- the texts, if each of them is one
 abbrev texts_fault : (c k s f a : Option Text) → Option BodyFault
 texts_fault c k s f a =
     option_or
@@ -106,7 +106,7 @@ join_refused : (o : Data) → is_some (join_fault o) ≡ is_none (links_by o)
 join_refused o =
     texts_refused (text_at (codes "complete") o) (text_at (codes "compensate") o) (text_at (codes "status") o) (text_at (codes "forget") o) (text_at (codes "after") o)
 
--- Those of a report
+-- The members of a report
 
 report_by : (id : Id) (m : ℕ) (act : Option Act) (outcome : Option Outcome) → is_some (if not (is_some act) then Some NoAct else if not (is_some outcome) then Some NoOutcome else None) ≡ is_none (report_with id m act outcome)
 report_by id m None outcome = refl
@@ -126,7 +126,7 @@ is_err-or_bad_text : (call : Option Call) → is_err (or_bad_text call) ≡ is_n
 is_err-or_bad_text None = refl
 is_err-or_bad_text (Some call) = refl
 
--- the call is refused exactly where a member is wrong
+-- the call is refused if and only if a member is wrong
 abbrev AreAlike : Option BodyFault → Option Call → Type 0
 AreAlike fault call = is_some fault ≡ is_none call
 
@@ -151,7 +151,7 @@ no_body = no_json (is_utf8 [])
 some_body : (b : ℕ) (body : List ℕ) → (length (b ∷ body) == 0) ≡ false
 some_body b body = grind (arith, nat_tests)
 
--- whether a body is wrong, beside what its request asks for
+-- whether a body is wrong, and what its request asks for
 abbrev IsJudged : ℕ → (body : List ℕ) → Form → Result Call Unrouted → Type 0
 IsJudged now body form asked = is_some (why_in_body form now body) ≡ (has_unknown form body || is_err asked)
 
@@ -174,7 +174,7 @@ report_judged now id m body = in_object Report now (object_in body) _ (report_re
 
 -- Requests
 
--- where there is a form
+-- if there is a form
 abbrev IsJudgedIf : ℕ → (body : List ℕ) → Option Form → Result Call Unrouted → Type 0
 IsJudgedIf now body (Some form) asked = IsJudged now body form asked
 IsJudgedIf now body None asked = ⊤
