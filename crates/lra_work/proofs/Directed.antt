@@ -1,4 +1,4 @@
--- At which nodes a pull is misdirected.
+-- The nodes at which a pull is misdirected.
 use Rattle.std.specs.Prelude.{IfSome, is_some, nat_le, nat_lt, not}
 use Rattle.std.proofs.Common.{◌≡◌, ◌≢◌, ◌⊎◌, ◌∙◌, ℕ, ◌+◌, ◌≤◌, Bool, true, false, ◌&&◌, ◌||◌, ◌==◌, List, [], ◌∷◌, ◌++◌, length, codes, Option, Some, None, IsTrue, ap, arith, inl, inr, refl, sym}
 use Rattle.std.specs.Fmt.{decimal}
@@ -98,7 +98,7 @@ query_behind rest =
     let long : nat_lt 10 size ≡ true = lt-ltb 10 size (omega arith) in
     rw long refl
 
--- behind who asks, or waits
+-- what comes before the number of the asking node, or before the time to wait
 abbrev key_of : Bool → List ℕ
 key_of true = codes "wait="
 key_of false = codes "from="
@@ -156,7 +156,7 @@ misdirected node waits from to group request me asker number names method target
     ∙ pulls node waits from to group request
     ∙ asks waits node from to group me asker number names
 
--- a pull that says nothing of whom it means
+-- a pull that doesn't say which node it is meant for
 pub unnamed : (node : NodeName) (request : Request) → is_pull request ≡ true → paths.query_of request.target ≡ None → is_misdirected node request ≡ is_some node.group
 unnamed node request pull none = found (is_pull request) (paths.query_of request.target) pull none
   where

@@ -1,4 +1,4 @@
--- The query of a pull that is meant for a node may stand in a target.
+-- The query of a pull that is meant for a node is allowed in a target.
 use Rattle.std.specs.Prelude.{IfSome, nat_le, nat_lt}
 use Rattle.std.proofs.Common.{◌≡◌, ◌⊎◌, ℕ, zero, suc, ◌+◌, ◌<◌, ◌≤◌, Bool, true, false, ◌&&◌, ◌||◌, ◌==◌, List, [], ◌∷◌, ◌++◌, length, codes, Option, Some, None, IsTrue, arith, inl, inr, refl, sym, subst}
 use Rattle.std.specs.Char.{is_ascii_alphanumeric}
@@ -71,7 +71,7 @@ of_name b e = settle (one_of (is_ascii_alphanumeric b) ((b == 46) || ((b == 95) 
     settle (inl is) = of_letter b is
     settle (inr is) = mark (one_of (b == 46) ((b == 95) || (b == 45)) is)
 
--- it may stand in a target, and is ASCII
+-- the byte is allowed in a target, and is ASCII
 abbrev is_plain : ℕ → Bool
 is_plain b = is_uri_byte b && nat_lt b 128
 

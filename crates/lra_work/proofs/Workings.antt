@@ -1,4 +1,4 @@
--- One connection more; and a worker's clerk without its gate.
+-- One more connection; and a worker's clerk without its gate.
 use Rattle.std.specs.Prelude.{⊤, Bool, true, false, MatchBool}
 use Rattle.std.proofs.Common.{ℕ, List, [], ◌∷◌, ◌++◌, Option, Some, None, Result, Ok, Err, inl, inr, refl, ap, subst}
 use Rattle.lra_facts.specs.declared.refusal.Refusal.{Refusal}
@@ -28,7 +28,7 @@ served_next {A = A} {C = C} addressee gives source sink clerk a old [] b new c b
 served_next addressee gives source sink clerk a old (x ∷ cs) b new c b' new' (a', old', g, s, rest) given served =
     (a', old', g, s, served_next addressee gives source sink clerk a' old' cs b new c b' new' rest given served)
 
--- what is served where no call is made is so wherever that follows
+-- what is served if no call is made holds wherever that follows
 request_by : {W A B : Type 0} → (A → B) → (makes : Call → Result Reply Refusal → Type 0) (sink : OfSink W) (old new : W) (asked : Result Call Unrouted) (result : Result ⊤ ServeError) → serving.ServesRequest A makes sink old new asked result → serving.ServesRequest B makes sink old new asked result
 request_by f makes sink old new (Ok call) result (inl made) = inl made
 request_by f makes sink old new (Ok call) result (inr (same, ends)) = inr (f same, ends)
