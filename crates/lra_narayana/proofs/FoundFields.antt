@@ -28,7 +28,7 @@ values_more name bytes headers i d b below e =
     ∙ ap (values name) (map-append (header_bytes bytes) (take i headers) (get_or headers i d ∷ []))
     ∙ values_push name (map (header_bytes bytes) (take i headers)) (header_bytes bytes (get_or headers i d)) b e
 
--- a name that is the same but for case, and one that isn't
+-- a name that is the same except for its case, and one that isn't
 pub named : (name : List ℕ) (field : List ℕ × List ℕ) → map to_ascii_lowercase field.0 ≡ map to_ascii_lowercase name → is_named name field ≡ true
 named name field e = (bytes_eq-Decides _ _).1 e
 
@@ -46,7 +46,7 @@ last_push [] text = refl
 last_push (first ∷ []) text = refl
 last_push (first ∷ next ∷ texts) text = last_push (next ∷ texts) text
 
--- a value with the name is the last, and one with another isn't looked at
+-- a value with the name is the last so far, and a field with another name is ignored
 pub value_hit : (name bytes own text : List ℕ) (headers : List HeaderSpan) (i : ℕ) → i < length headers
     → own ≡ span_bytes bytes (get_or headers i no_span).name → map to_ascii_lowercase own ≡ map to_ascii_lowercase name
     → text ≡ span_bytes bytes (get_or headers i no_span).value

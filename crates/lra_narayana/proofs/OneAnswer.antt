@@ -15,7 +15,7 @@ use Rattle.lra_narayana.proofs.OneBody.{known, nothing_more, one_body, same_fron
 same_length : (t u : List ℕ) (n m : ℕ) → IsLength t n → IsLength u m → t ≡ u → n ≡ m
 same_length t u n m one two e = let a = one.value in let b = two.value in cc
 
--- fields say one framing
+-- fields state only one framing
 pub same_framing : (unsaid : Framing) (ls cs : List (List ℕ)) (f g : Framing) → SaysFraming unsaid ls cs f → SaysFraming unsaid ls cs g → f ≡ g
 same_framing unsaid ls cs (Length n) (Length m) (inl a) (inl b) = let x = a.2 in let y = b.2 in cc
 same_framing unsaid ls cs (Length n) (Length m) (inl a) (inr b) = let x = a.0 in let y = b.1 in absurd (cc)
@@ -121,7 +121,7 @@ no_cut_answer old new c d f g a b text more (given, gave, is) so left =
     let whole : given ++ (k.0 ++ more) ≡ (text ++ more) ++ [] = sym (append_assoc given k.0 more) ∙ ap (λ (l : List ℕ). l ++ more) (sym k.2) ∙ sym (append-nil (text ++ more)) in
     nothing_more k.0 more (one_answer c d f g a b given (text ++ more) (k.0 ++ more) [] is so whole).4
 
--- heads and a body are an answer
+-- heads and a body make an answer
 pub answered : (old mid new : GivenBytes) (code : ℕ) (said framing : Framing) (body : List ℕ) → GivesWhat old mid (IsFinal code said) → framing ≡ framing_for code said
     → GivesWhat mid new (IsFramed framing body) → GivesWhat old new (IsAnswer code framing body)
 answered old mid new code said framing body (head, gave, final) e (behind, came, framed) =

@@ -9,7 +9,7 @@ use Rattle.lra_narayana.specs.Chunks.{Body, Chunk, IsBody, IsChunk, IsChunked, I
 
 -- ---- parts
 
--- fronts of one length
+-- beginnings of the same length
 pub same_front : (a b x y : List ℕ) → length a ≡ length b → a ++ x ≡ b ++ y → (a ≡ b) × (x ≡ y)
 same_front [] [] x y long e = (refl, e)
 same_front [] (b ∷ more_b) x y long e = absurd (omega (arith, long))
@@ -87,7 +87,7 @@ no_last c l x y one last e =
     let some = one.some in
     omega (arith, none, some)
 
--- what stands behind some chunks of a body
+-- what follows some chunks of a body
 pub behind_chunks : (done cs : List Chunk) (l : ChunkLine) (z y : List ℕ) → AllByRecursion IsChunk done → AllByRecursion IsChunk cs → IsLast l
     → flat_map chunk_text done ++ z ≡ flat_map chunk_text cs ++ (print_chunk_line l ++ y)
     → (rest : List Chunk) × (cs ≡ done ++ rest) × AllByRecursion IsChunk rest × (z ≡ flat_map chunk_text rest ++ (print_chunk_line l ++ y))
@@ -129,7 +129,7 @@ one_body a b s t x y (c, one, says, are) (d, two, tells, hold) e =
     let same = same_body c d x y one two (ap (λ (l : List ℕ). l ++ x) (sym says) ∙ e ∙ ap (λ (l : List ℕ). l ++ y) tells) in
     (are ∙ ap body_bytes same.0 ∙ sym hold, says ∙ ap body_text same.0 ∙ sym tells, same.1)
 
--- ---- what is read, where it is known what was left
+-- ---- what is read, if it is known what was left
 
 pub known : (old new : Option (List ℕ)) (bytes input : List ℕ) → Consumes old new bytes → old ≡ Some input → (rest : List ℕ) × (new ≡ Some rest) × (input ≡ bytes ++ rest)
 known None new bytes input took e = absurd (cc)

@@ -1,4 +1,4 @@
--- What is written of an id is read as it.
+-- What is written for an id is read as that id.
 use Rattle.std.proofs.Common.{◌≡◌, ◌≢◌, ◌++◌, ◌<◌, ℕ, suc, Bool, true, false, List, [], ◌∷◌, codes, take, length, get_or, reverse, sym, refl, ap, ◌∙◌, arith, append_assoc, subst}
 use Rattle.std.specs.Prelude.{◌==◌, ◌||◌, if◌then◌else◌, IfOk, Result, Ok, Err}
 use Rattle.std.specs.List.{list_any}
@@ -41,7 +41,7 @@ none_of : (p : ℕ → Bool) (bs : List ℕ) → ((i : ℕ) → i < length bs �
 none_of p [] each = refl
 none_of p (b ∷ bs) each = let first = each 0 (omega arith) in let more = none_of p bs (λ i inside. each (suc i) (omega (arith, inside))) in grind (arith, first, more)
 
--- what has no `%` has no escapes
+-- a text without `%` has no escapes
 decode_same : (bs : List ℕ) → list_any (λ b. b == 37) bs ≡ false → percent_decode bs ≡ bs
 unfolding percent_decode
 decode_same [] e = refl
@@ -52,7 +52,7 @@ decode_same (b ∷ c ∷ d ∷ bs) e =
     let rest : list_any (λ x. x == 37) (c ∷ d ∷ bs) ≡ false = grind (arith, e) in
     rw first (ap (λ (l : List ℕ). b ∷ l) (decode_same (c ∷ d ∷ bs) rest))
 
--- what has no `?` is its own path
+-- a text without `?` is its own path
 path_same : (bs : List ℕ) → list_any (λ b. b == 63) bs ≡ false → path_of bs ≡ bs
 unfolding path_of
 path_same [] e = refl
@@ -61,7 +61,7 @@ path_same (b ∷ bs) e =
     let rest : list_any (λ x. x == 63) bs ≡ false = grind (arith, e) in
     rw first (ap (λ (l : List ℕ). b ∷ l) (path_same bs rest))
 
--- what ends with another byte has no slash to lose
+-- a text that ends with another byte has no slash to lose
 kept_end : (front : List ℕ) (b : ℕ) → (b == 47) ≡ false → without_slashes (front ++ b ∷ []) ≡ front ++ b ∷ []
 kept_end front b e =
     rw (reverse-append front (b ∷ []), e) (sym (ap reverse (reverse-append front (b ∷ []))) ∙ reverse-reverse (front ++ b ∷ []))
@@ -75,7 +75,7 @@ unfolding last_part
 alone [] e = refl
 alone (y ∷ ys) e = rw e refl
 
--- the last part stands behind a slash, where nothing parts it
+-- the last part follows a slash, if nothing in it separates parts
 last_behind : (xs ys : List ℕ) → list_any is_parting ys ≡ false → last_part (xs ++ 47 ∷ ys) ≡ ys
 unfolding last_part
 last_behind [] ys e = alone ys e
@@ -108,7 +108,7 @@ marks b e = (grind (arith, e), grind (arith, e), grind (arith, e), grind (arith,
 last_byte : (id : Id) → text_of id ≡ take 35 (text_of id) ++ get_or (text_of id) 35 0 ∷ []
 last_byte id = sym (take_all 36 (text_of id) (omega (arith, text_length id))) ∙ take_more (text_of id) 35 0 (omega (arith, text_length id))
 
--- a URL names the id of which it was made
+-- a URL names the id from which it was made
 pub names_own : (base : List ℕ) (id : Id) → IsId id → IsTextOf (text_of id) id → IsBaseUrl base → Names (base ++ (codes "/lra-coordinator/" ++ text_of id)) id
 names_own base id is read clean =
     let text : List ℕ = text_of id in
@@ -128,7 +128,7 @@ names_own base id is read clean =
     ap name_in (ap percent_decode once ∙ once) ∙ ap (λ (l : List ℕ). last_part (without_slashes l)) path ∙ ap last_part kept ∙ part in
     (is, subst (λ t. IsTextOf t id) (sym named) read)
 
--- what holds of a text holds of what was written so
+-- what holds for a text holds for what was written so
 pub if_written : {T : Type 0} {E : Type 0} (f : T → List ℕ) (w : List ℕ) (P : List ℕ → Type 0) (r : Result T E) → IfOk r (λ t. f t ≡ w) → P w → IfOk r (λ t. P (f t))
 if_written f w P (Ok t) e p = subst P (sym e) p
 if_written f w P (Err x) e p = tt

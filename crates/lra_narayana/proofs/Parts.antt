@@ -6,7 +6,7 @@ use Rattle.std.proofs.lemmas.Bool.{ne_eqb}
 use Rattle.std.proofs.lemmas.List.{drop_all, drop_more, take_all, take_more}
 use Rattle.lra_narayana.specs.Naming.{is_parting, last_part, path_of}
 
--- a list that has no parting byte is its own last part
+-- a list without a separating byte is its own last part
 pub own_part : (bs : List ℕ) → (if list_any is_parting bs then last_part bs else bs) ≡ last_part bs
 unfolding last_part
 own_part [] = refl
@@ -18,7 +18,7 @@ any_by x y whole part e = grind (arith, e)
 none_by : (x y : Bool) (whole part : List ℕ) → x ≡ false → (if (x || y) then whole else part) ≡ (if y then whole else part)
 none_by x y whole part e = rw e refl
 
--- behind a parting byte another part begins
+-- another part begins behind a separating byte
 pub part_begins : (b : ℕ) (bs part : List ℕ) → is_parting b ≡ true → (if list_any is_parting bs then last_part bs else bs) ≡ (if list_any is_parting (b ∷ bs) then last_part (b ∷ bs) else part)
 unfolding last_part
 part_begins b bs part e = own_part bs ∙ sym (any_by (is_parting b) (list_any is_parting bs) (last_part (b ∷ bs)) part e ∙ any_by (is_parting b) (list_any is_parting bs) (last_part bs) (b ∷ bs) e)
@@ -50,7 +50,7 @@ goes_by b bs e = let other : (b == 63) ≡ false = ne_eqb b 63 e in rw other ref
 pub path_ends : (i : ℕ) (bs : List ℕ) → i < length bs → get_or bs i 0 ≡ 63 → take i bs ++ path_of (drop i bs) ≡ take i bs
 path_ends i bs inside e = ap (λ (l : List ℕ). take i bs ++ l) (path_step i bs inside ∙ ends_by (get_or bs i 0) (drop (i + 1) bs) e) ∙ append-nil (take i bs)
 
--- any other byte is of the path
+-- any other byte belongs to the path
 pub path_more : (i : ℕ) (bs : List ℕ) → i < length bs → get_or bs i 0 ≢ 63 → take (i + 1) bs ++ path_of (drop (i + 1) bs) ≡ take i bs ++ path_of (drop i bs)
 path_more i bs inside e =
     ap (λ (l : List ℕ). l ++ path_of (drop (i + 1) bs)) (take_more bs i 0 inside) ∙ append_assoc (take i bs) (get_or bs i 0 ∷ []) (path_of (drop (i + 1) bs))
@@ -61,7 +61,7 @@ pub path_whole : (i : ℕ) (bs : List ℕ) → i ≡ length bs → take i bs ++ 
 unfolding path_of
 path_whole i bs e = ap (λ (l : List ℕ). l ++ path_of (drop i bs)) (take_all i bs (omega (arith, e))) ∙ ap (λ (l : List ℕ). bs ++ path_of l) (drop_all i bs (omega (arith, e))) ∙ append-nil bs
 
--- what is said of a rest, by the place at which it begins
+-- what holds for a rest, by the place at which it begins
 pub begins_at : (i : ℕ) (bs part : List ℕ) → i < length bs → is_parting (get_or bs i 0) ≡ true
     → (if list_any is_parting (drop (i + 1) bs) then last_part (drop (i + 1) bs) else drop (i + 1) bs) ≡ (if list_any is_parting (drop i bs) then last_part (drop i bs) else part)
 begins_at i bs part inside e =

@@ -1,4 +1,4 @@
--- What a target says is said once.
+-- A target determines what it carries.
 use Rattle.std.proofs.Common.{◌≡◌, ◌+◌, ◌*◌, ◌/◌, ℕ, List, [], ◌∷◌, ◌++◌, codes, sym, refl, ap, ◌∙◌, arith, drop, take, length, get_or}
 use Rattle.std.specs.Prelude.{◌==◌, if◌then◌else◌}
 use Rattle.std.proofs.lemmas.List.{length-take-le, append-nil}
@@ -17,7 +17,7 @@ use Rattle.lra_narayana.specs.Kinds.{letter_of, query_text}
 use Rattle.lra_narayana.specs.Seals.{hmac, pad, seal, sealed_text}
 use Rattle.lra_narayana.specs.Carrying.{Carries, spelled}
 
--- the kind and the form that a letter says
+-- the kind and the form that a letter stands for
 kind_by : ℕ → Kind
 kind_by n = if n == 99 then Compensate else if n == 67 then Compensate else if n == 68 then Compensate else if n == 107 then Complete else if n == 75 then Complete else if n == 76 then Complete else if n == 115 then Status else if n == 83 then Status else if n == 84 then Status else if n == 102 then Forget else if n == 70 then Forget else if n == 71 then Forget else if n == 97 then After else if n == 65 then After else After
 
@@ -60,7 +60,7 @@ form_said After Own = refl
 form_said After Jakarta = refl
 form_said After Javax = refl
 
--- a letter says one kind and one form
+-- a letter stands for only one kind and one form
 pub one_letter : (kind k : Kind) (form f : Query) → letter_of kind form ≡ letter_of k f → (kind ≡ k) × (form ≡ f)
 one_letter kind k form f e =
     (sym (kind_said kind form) ∙ ap kind_by e ∙ kind_said k f, sym (form_said kind form) ∙ ap form_by e ∙ form_said k f)
@@ -77,7 +77,7 @@ length-seal key kind id link =
     let six : length m ≡ 6 = length-take-le 6 (hmac key (sealed_text kind id link)) (omega (arith, length-hmac key (sealed_text kind id link))) in
     ap length (append-nil (encode_symbols url_safe_no_pad.encode_table m)) ∙ length-encode_symbols url_safe_no_pad.encode_table m ∙ ap (λ (n : ℕ). (4 * n + 2) / 3) six
 
--- lists of one length that begin one list are one
+-- two lists of the same length with which the same list begins are equal
 pub same_front : (n : ℕ) (xs ys vs ws : List ℕ) → length xs ≡ n → length vs ≡ n → xs ++ ys ≡ vs ++ ws → (xs ≡ vs) × (ys ≡ ws)
 same_front n [] ys [] ws a b e = (refl, e)
 same_front n [] ys (v ∷ vs) ws a b e = absurd (omega (arith, a, b))
@@ -87,7 +87,7 @@ same_front n (x ∷ xs) ys (v ∷ vs) ws a b e =
     let first : x ≡ v = ap (λ l. get_or l 0 0) e in
     (ap (λ (l : List ℕ). x ∷ l) more.0 ∙ ap (λ (y : ℕ). y ∷ vs) first, more.1)
 
--- a target that is parted so carries one link alone, and that is sealed by what stands there
+-- a target with these parts carries only one link, and the seal in it is that of the link
 pub one_link : (key : List ℕ) (shorts : List Short) (id : Id) (target : List ℕ) (letter : ℕ) (s rest : List ℕ) (kind : Kind) (form : Query) (link : List ℕ)
     → target ≡ 47 ∷ letter ∷ (s ++ 47 ∷ rest) → length s ≡ 8 → letter ≡ letter_of kind form
     → link ≡ codes "http://" ++ (spelled shorts rest ++ query_text kind form)

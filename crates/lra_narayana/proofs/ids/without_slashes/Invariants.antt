@@ -2,7 +2,7 @@ use Rattle.std.proofs.Common.{◌≡◌, length}
 use Rattle.lra_narayana.specs.Naming.{without_slashes}
 use Rattle.lra_narayana.proofs.ids.without_slashes.Given as goal
 
--- nothing else was taken
+-- nothing but slashes was taken
 abbrev pub invariant-loop-rest : goal.invariant-loop-rest
 invariant-loop-rest l = without_slashes l.rest ≡ without_slashes l.fn.path
 

@@ -2,7 +2,7 @@ use Rattle.std.proofs.Common.{◌≡◌, length}
 use Rattle.lra_narayana.specs.Saying.{without_leading}
 use Rattle.lra_narayana.proofs.told.without_leading.Given as goal
 
--- nothing else was taken
+-- nothing but blanks was taken
 abbrev pub invariant-loop-rest : goal.invariant-loop-rest
 invariant-loop-rest l = without_leading l.rest ≡ without_leading l.fn.text
 
