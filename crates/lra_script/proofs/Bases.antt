@@ -6,13 +6,13 @@ use Rattle.std.proofs.lemmas.List.{length-take-le}
 use Rattle.lra_script.specs.Asks.{IsBaseOf, IsNumber}
 use Rattle.lra_script.proofs.OneAskALine.{head_same, tail_same}
 
--- the first so many counts were read, and these words are left
+-- the first counts, `place` of them, were read, and these words are left
 pub record IsCounting (words rest : List (List ℕ)) (counts : List ℕ) (place : ℕ) : Type 0 where
   pub read : words ≡ map decimal (take place counts) ++ rest
   pub small : All IsNumber (take place counts)
   pub room : length counts ≡ 8
 
--- words that spell a base have a number behind those of fewer counts
+-- if words spell a base, a number follows those of fewer counts
 further : (done : List ℕ) (rest : List (List ℕ)) (base : List ℕ) → map decimal done ++ rest ≡ map decimal base → length done < length base → All IsNumber base
     → (n : ℕ) × (more : List ℕ) × IsNumber n × (rest ≡ decimal n ∷ map decimal more)
 further [] rest [] e less small = absurd (omega (arith, less))
@@ -24,7 +24,7 @@ further (d ∷ done) rest (n ∷ base) e less small =
 counted : (words rest : List (List ℕ)) (counts : List ℕ) (place : ℕ) → IsCounting words rest counts place → place ≤ 8 → length (take place counts) ≡ place
 counted words rest counts place was few = length-take-le place counts (omega (arith, few, was.room))
 
--- a word that is no number spells no count
+-- a word that is not a number spells no count
 pub no_count : (words rest more : List (List ℕ)) (word counts : List ℕ) (place nodes : ℕ) → IsCounting words rest counts place → place < nodes → nodes ≤ 8 → rest ≡ word ∷ more
     → ((n : ℕ) → IsNumber n → word ≡ decimal n → ⊥) → (base : List ℕ) → IsBaseOf nodes base → words ≡ map decimal base → ⊥
 no_count words rest more word counts place nodes was less few is none base of e =

@@ -1,4 +1,4 @@
--- What a script has written, where the bytes of its input are known.
+-- What a script has written, if the bytes of its input are known.
 use Rattle.std.proofs.Common.{◌≡◌, ◌∙◌, ℕ, List, [], ◌++◌, Option, Some, None, IfSome, ap, append-nil, subst, sym}
 use Rattle.std.specs.Io.KnownBytes.{Consumes, IsAtEnd}
 use Rattle.lra_http.specs.Streams.{Calls, FoundEnd, GivenBytes, TakenBytes, TakesPart}
@@ -6,14 +6,14 @@ use Rattle.lra_script.specs.LineParts.{lines_of}
 use Rattle.lra_script.specs.ScriptEnds.{HasRun, IsPut, WritesPart}
 use Rattle.lra_script.specs.Scripts.{Plays}
 
--- what holds of the bytes that were given, whatever follows, holds of all that were left
+-- what holds for the bytes that were given, whatever follows, holds for all that were left
 of_left : (P : List ℕ → Type 0) (left after : Option (List ℕ)) (bytes : List ℕ) (Ended : Type 0) → Consumes left after bytes → (Ended → IsAtEnd after)
     → ((more : List ℕ) → (Ended → more ≡ []) → P (bytes ++ more)) → IfSome left P
 of_left P None after bytes Ended took end holds = tt
 of_left P (Some input) None bytes Ended took end holds = absurd took
 of_left P (Some input) (Some rest) bytes Ended took end holds = subst P (sym took) (holds rest end)
 
--- what holds of the bytes that were given to the end holds of all that were left
+-- what holds for the bytes that were given to the end holds for all that were left
 of_all : (P : List ℕ → Type 0) (left after : Option (List ℕ)) (bytes : List ℕ) → Consumes left after bytes → IsAtEnd after → P bytes → IfSome left P
 of_all P None after bytes took end holds = tt
 of_all P (Some input) None bytes took end holds = absurd took

@@ -7,7 +7,7 @@ use Rattle.lra_script.specs.LineParts.{HasNone}
 use Rattle.lra_script.specs.ScriptEnds.{ReadsLine}
 use Rattle.lra_script.proofs.Splits.{HasNone-push}
 
--- a part of a line was given, of which so much is kept
+-- a part of a line was given, and this much of it is kept
 abbrev pub IsReading : List ℕ → GivenBytes → GivenBytes → Type 0
 IsReading kept old now = GivesWhat old now (λ part. (kept ≡ take 4097 part) × HasNone 10 part)
 
@@ -27,14 +27,14 @@ same_part old now next part gave gives = subst (λ (l : List ℕ). Gives old nex
 pub reading_end : (kept : List ℕ) (old now next : GivenBytes) → IsReading kept old now → Gives now next [] × FoundEnd next → ReadsLine false kept old next
 reading_end kept old now next (part, gave, (is, none)) (gives, ended) = ((part, same_part old now next part gave gives, (is, none)), ended)
 
--- one more byte is kept, where there is room
+-- one more byte is kept, if there is room
 pub keep_more : (kept part : List ℕ) (b : ℕ) → length kept < 4097 → kept ≡ take 4097 part → kept ++ b ∷ [] ≡ take 4097 (part ++ b ∷ [])
 keep_more kept part b room e =
     let short : length part < 4097 = omega (arith, ap length e, length-take 4097 part) in
     let same : kept ≡ part = e ∙ take_all 4097 part (omega arith) in
     ap (λ (l : List ℕ). l ++ b ∷ []) same ∙ sym (take_all 4097 (part ++ b ∷ []) (omega (arith, length-append part (b ∷ []))))
 
--- and none where there is none
+-- and no byte is kept, if there is no room
 pub keep_same : (kept part : List ℕ) (b : ℕ) → 4097 ≤ length kept → kept ≡ take 4097 part → kept ≡ take 4097 (part ++ b ∷ [])
 keep_same kept part b full e =
     let long : 4097 ≤ length part = omega (arith, ap length e, length-take 4097 part) in

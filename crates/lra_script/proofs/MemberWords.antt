@@ -1,4 +1,4 @@
--- What words must be to report of a participant, or to join.
+-- What words must be to report about a participant, or to join.
 use Rattle.std.proofs.Common.{◌≡◌, ℕ, List, [], ◌∷◌, codes, get_or, ap, sym, subst, ◌∙◌, arith}
 use Rattle.std.specs.Fmt.{decimal}
 use Rattle.lra_id.specs.Ids.{Id, IsId, id_text}
@@ -15,7 +15,7 @@ use Rattle.lra_script.specs.Asks.{IsInRange, HasArguments, IsMemberNumber, IsNod
 third : (word verb : List ℕ) → word ≡ verb → get_or word 2 0 ≡ get_or verb 2 0
 third word verb e = ap (λ (l : List ℕ). get_or l 2 0) e
 
--- words that begin with no participant report nothing
+-- words that don't begin with a participant report nothing
 pub none_reported : (nodes : ℕ) (words : List (List ℕ))
     → ((node : ℕ) (id : Id) (m : ℕ) (rest : List (List ℕ)) → IsNodeOf nodes node → IsId id → IsMemberNumber m → words ≡ decimal node ∷ id_text id ∷ decimal m ∷ rest → ⊥)
     → (ask : Ask) → verb_of ask ≡ codes "report" → HasArguments words ask → IsInRange nodes ask → ⊥
@@ -46,7 +46,7 @@ none_reported nodes words none (Read id) verb _ _ = absurd (omega (arith, third 
 same_rest : (a b c d : List ℕ) (rest given : List (List ℕ)) → a ∷ b ∷ rest ≡ c ∷ d ∷ given → given ≡ rest
 same_rest a b c d rest given e = cc
 
--- words join nothing if they give no links behind the first two
+-- words join nothing if the words after the first two give no links
 pub none_joined : (nodes : ℕ) (words rest : List (List ℕ)) (a b : List ℕ) → words ≡ a ∷ b ∷ rest → ((links : Links) → GivesLinks rest links → ⊥)
     → (ask : Ask) → verb_of ask ≡ codes "join" → HasArguments words ask → IsInRange nodes ask → ⊥
 none_joined nodes words rest a b is none (Enter node (Begin parent deadline)) verb _ _ = absurd (omega (arith, third _ _ verb))

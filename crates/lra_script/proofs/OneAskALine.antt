@@ -1,6 +1,6 @@
--- A line spells at most one ask: its words tell the form, and the form's words each value. No table
--- of pairs is needed: the forms have names in a plain data type, two bytes tell the form, and
--- `subst` carries that over.
+-- A line spells at most one ask: its words determine the form, and the form's words determine each
+-- value. No table of pairs is needed: the forms have names in a plain data type, two bytes
+-- determine the form, and `subst` carries that over.
 use Rattle.std.proofs.Common.{◌≡◌, ℕ, suc, ◌<◌, ◌≤◌, ◌^◌, ◌+◌, ◌*◌, ◌==◌, inl, inr, Bool, true, false, cond, List, [], ◌∷◌, ◌++◌, Option, Some, None, IfSome, if◌then◌else◌, codes, get_or, take, drop, refl, ap, sym, subst, ◌∙◌, arith}
 use Rattle.std.specs.Prelude.{All, map}
 use Rattle.std.specs.Fmt.{decimal}
@@ -33,9 +33,9 @@ use Rattle.lra_id.proofs.DecimalNumbers.{own}
 use Rattle.lra_script.proofs.DecimalNumbers.{id_parted, one_number}
 use Rattle.lra_script.proofs.Splits.{parts_some}
 
--- Words are those of one text
+-- Words are those of only one text
 
--- the text of parts, with a byte between each two
+-- the text of parts, with a byte between every two
 abbrev joined : ℕ → List (List ℕ) → List ℕ
 joined at [] = []
 joined at (p ∷ []) = p
@@ -73,7 +73,7 @@ three f {a} {x} {b} {y} {c} {z} p q r = two (λ u v. f u v c) p q ∙ ap (f x y)
 five : {A B C D E F : Type 0} (f : A → B → C → D → E → F) {a x : A} {b y : B} {c z : C} {d w : D} {e v : E} → a ≡ x → b ≡ y → c ≡ z → d ≡ w → e ≡ v → f a b c d e ≡ f x y z w v
 five f {a} {x} {b} {y} {c} {z} {d} {w} {e} {v} p q r s t = three (λ i j k. f i j k d e) p q r ∙ two (f x y z) s t
 
--- Each word tells one value
+-- Each word determines one value
 
 pub head_same : (x y : List ℕ) (xs ys : List (List ℕ)) → x ∷ xs ≡ y ∷ ys → x ≡ y
 head_same x y xs ys e = cc
@@ -140,7 +140,7 @@ outcome_same Failed Failed e = refl
 abbrev kind_at : ℕ → Kind
 kind_at n = if n == 220 then Complete else if n == 213 then Compensate else if n == 233 then Status else if n == 215 then After else Forget
 
--- two bytes tell a kind
+-- two bytes determine a kind
 abbrev kind_mark : List ℕ → ℕ
 kind_mark name = get_or name 3 0 + get_or name 4 0
 
@@ -200,7 +200,7 @@ answer_same given (Code n x) Broken (rest, is, body) (other, also) fits small = 
 answer_same given Broken (Code m y) (rest, is) (other, also, whole) fits small = absurd (no_number m small (head_same (decimal m) (codes "broken") other rest (sym also ∙ is)))
 answer_same given Broken Broken h k fits small = refl
 
--- The verb tells the form
+-- The verb determines the form
 
 data Form : Type 0 where
   OfBegin : Form
@@ -250,7 +250,7 @@ form_of (Same node other) = OfSame
 form_of (Text id) = OfText
 form_of (Read id) = OfRead
 
--- three bytes tell a verb
+-- three bytes determine a verb
 abbrev verb_mark : List ℕ → ℕ
 verb_mark verb = get_or verb 0 0 + 4 * get_or verb 2 0 + get_or verb 6 0
 
@@ -341,7 +341,7 @@ like (Read id) = (id, refl)
 like_by : (a b : Ask) → verb_of a ≡ verb_of b → IsLike (form_of a) b
 like_by a b e = subst (λ (k : Form). IsLike k b) (sym (form_same a b e)) (like b)
 
--- The words tell the rest
+-- The words determine the rest
 
 word : (n : ℕ) (a b : List (List ℕ)) → a ≡ b → get_or a n [] ≡ get_or b n []
 word n a b e = ap (λ (l : List (List ℕ)). get_or l n []) e

@@ -42,7 +42,7 @@ node_in s node is = ap (λ (b : Bool). b && nat_le node (nodes_of s)) (le 1 node
     le : (a b : ℕ) → a ≤ b → nat_le a b ≡ true
     le a b h = grind (arith, nat_tests)
 
--- what was heard is entered by an event, or nothing is
+-- what was learned is recorded by an event, or there is no event
 heard_leads : (s : State) (node : ℕ) (c : Option Command) → IsWorld s → IsNodeOf (nodes_of s) node → Leads s (after_heard s node c)
 heard_leads s node None w is = leads_none s w
 heard_leads s node (Some c) w is =
@@ -77,7 +77,7 @@ answers_lead n s (b ∷ bs) out t w nodes (inr (inl h)) = stays_lead s t w h.2
 answers_lead n s (b ∷ bs) out t w nodes (inr (inr (ask, short, spells, does))) =
     does_lead s t ask out w (subst (λ (k : ℕ). IsInRange k ask) (sym nodes) spells.3) does
 
--- So there are as many nodes as there were
+-- So the number of nodes stays the same
 
 leads_keep : (s t : State) → Leads s t → nodes_of t ≡ nodes_of s
 leads_keep s t led = (run_keeps s t led.events led.replies led.world led.runs).grown.nodes

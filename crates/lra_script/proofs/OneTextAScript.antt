@@ -1,4 +1,4 @@
--- A line prints one thing, and a script has one text, but for lack of memory.
+-- A line prints only one thing, and a script has only one text, unless memory runs out.
 use Rattle.std.proofs.Common.{◌≡◌, ℕ, ◌<◌, ◌≤◌, ◌⊎◌, inl, inr, List, [], ◌∷◌, ◌++◌, Option, None, Some, length, refl, ap, sym, subst, ◌∙◌, arith}
 use Rattle.std.specs.Prelude.{IfSome}
 use Rattle.lra_callback.specs.declared.duty.Duty.{Duty}
@@ -17,7 +17,7 @@ use Rattle.lra_script.specs.Scripts.{Answers, AnswersInRoom, Does, IsDone, Print
 use Rattle.lra_script.specs.NodeHoldings.{AreComing}
 use Rattle.lra_script.proofs.OneAskALine.{one_ask}
 
--- what is asked is done in one way
+-- what is asked for is done in only one way
 abbrev AreOne : (a x : List ℕ) (t u : State) → Type 0
 AreOne a x t u = (a ≡ x) × (t ≡ u)
 
@@ -26,7 +26,8 @@ event_once s event a x t u (reply, steps, is) (other, goes, also) =
     let one = step_once s t u event reply other steps goes in
     (is ∙ ap (λ (r : Reply). event_line r) one.reply_is ∙ sym also, one.state_is)
 
--- of a frame that was sent one number of bytes comes; another is refused whatever comes
+-- for a frame that was sent, only one number of bytes arrives; a frame that wasn't sent is refused
+-- whatever arrives
 coming_once : (s : State) (frame node : ℕ) (kept : Option ℕ) (n m : ℕ) (a x : List ℕ) (t u : State) → AreComing s frame kept n → AreComing s frame kept m
     → PrintsReply s (DeliverEvent frame node n) a t → PrintsReply s (DeliverEvent frame node m) x u → AreOne a x t u
 coming_once s frame node (Some kept) n m a x t u e f h k =

@@ -18,7 +18,7 @@ some_text n s [] = ([], ([], refl))
 some_text n s ([] ∷ lines) = let r = some_text n s lines in (r.0, (s ∷ r.1.0, ([], r.0, refl, (refl, refl), r.1.1)))
 some_text n s ((b ∷ bs) ∷ lines) = let r = some_text n s lines in (refused NoMemory ++ r.0, (s ∷ r.1.0, (refused NoMemory, r.0, refl, inl (refl, refl), r.1.1)))
 
--- a line that is too long answers as its kept part does
+-- a line that is too long is answered as its kept part is
 long_answers : (n : ℕ) (s : State) (kept line out : List ℕ) (t : State) → 4096 < length kept → 4096 < length line → Answers n s kept out t → Answers n s line out t
 long_answers n s [] line out t long_kept long h = absurd (omega arith)
 long_answers n s (a ∷ kept) [] out t long_kept long h = absurd (omega arith)
@@ -35,7 +35,7 @@ kept_answers n s kept line out t e h = elim (at_most_or_more (length line) 4097)
   | inr long ↦ let k : length kept ≡ 4097 = ap length e ∙ length-take-le 4097 line (omega arith) in long_answers n s kept line out t (omega arith) (omega arith) h
 ]
 
--- from state s on more lines can be answered behind these, which were answered so
+-- from state s on, more lines can be answered after these, which were answered so
 abbrev pub GoesOn : ℕ → State → List (List ℕ) → List ℕ → Type 0
 GoesOn n s whole out = (lines : List (List ℕ)) (tail : List ℕ) → HasText n s lines tail → HasText n (beginning n) (whole ++ lines) (out ++ tail)
 
@@ -89,7 +89,7 @@ running_start n first old = record {
   goes = λ lines tail h. h;
 }
 
--- behind whole lines one more
+-- one more line after whole lines
 line_more : (given line : List ℕ) (whole : List (List ℕ)) → ((bs : List ℕ) → lines_of (given ++ bs) ≡ whole ++ lines_of bs) → HasNone 10 line
     → (bs : List ℕ) → lines_of ((given ++ (line ++ 10 ∷ [])) ++ bs) ≡ (whole ++ line ∷ []) ++ lines_of bs
 line_more given line whole lines none bs =
@@ -98,7 +98,7 @@ line_more given line whole lines none bs =
     ∙ ap (λ (l : List (List ℕ)). whole ++ l) (parts_whole 10 line bs none)
     ∙ sym (append_assoc whole (line ∷ []) (lines_of bs))
 
--- behind whole lines the last
+-- the last line after whole lines
 line_last : (given line : List ℕ) (whole : List (List ℕ)) → ((bs : List ℕ) → lines_of (given ++ bs) ≡ whole ++ lines_of bs) → HasNone 10 line
     → lines_of (given ++ line) ≡ whole ++ line ∷ []
 line_last given line whole lines none = lines line ∙ ap (λ (l : List (List ℕ)). whole ++ l) (parts_last 10 line none)
@@ -172,7 +172,7 @@ part_last n some s t kept first now next old mid new r ((line, gave, (is, none))
       ),
 )
 
--- a read broke off in mid-line
+-- a read failed within a line
 part_fault : (n : ℕ) → 1 ≤ n → (s : State) (first now next : GivenBytes) (old new : TakenBytes) → IsRunning n s first now old new → ReadsPart now next → WritesPart n first next old new
 part_fault n some s first now next old new r (part, gave, none) = (
   r.given ++ part,
@@ -209,7 +209,7 @@ whole_fault n some s first now next old new r (part, gave, none) = (
 
 -- ---- a script
 
--- so many lines were given whole and answered, and the world stands for the state that they left
+-- this many lines were given whole and answered, and the world stands for the state that they left
 pub record Runs (n : ℕ) (world : Machine) (first now : GivenBytes) (old new : TakenBytes) (reads_before reads writes_before writes : Calls) : Type 0 where
   pub some : 1 ≤ n
   pub state : State
@@ -219,7 +219,7 @@ pub record Runs (n : ℕ) (world : Machine) (first now : GivenBytes) (old new : 
   pub reads_well : WentWell (length running.whole) reads_before reads
   pub writes_well : WentWell (length running.whole) writes_before writes
 
--- there are as many nodes as there were
+-- the number of nodes stays the same
 pub runs_nodes : (n : ℕ) (world : Machine) (first now : GivenBytes) (old new : TakenBytes) (rb r wb w : Calls) → Runs n world first now old new rb r wb w
     → length world.replicas ≡ n
 runs_nodes n world first now old new rb r wb w run = run.stands.nodes ∙ run.nodes

@@ -1,4 +1,4 @@
--- Where a text is parted.
+-- Where a text is split.
 use Rattle.std.proofs.Common.{◌≡◌, ℕ, zero, suc, ◌<◌, ◌==◌, Bool, true, false, cond, List, [], ◌∷◌, ◌++◌, length, take, drop, get_or, refl, ap, ◌∙◌, arith}
 use Rattle.std.proofs.lemmas.Bool.Decides.{Decides-eqb}
 use Rattle.lra_script.specs.LineParts.{HasNone, onto_first, parts}
@@ -42,7 +42,7 @@ pub parts_some : (at : ℕ) (bs : List ℕ) → parts at bs ≡ [] → ⊥
 parts_some at [] e = absurd cc
 parts_some at (b ∷ bs) e = some_at (b == at) b (parts at bs) e
 
--- the same by the place of the first such byte
+-- the same, given the place of the first such byte
 pub parts_at : (at : ℕ) (text : List ℕ) (i : ℕ) → i < length text → ((k : ℕ) → k < i → get_or text k 0 ≡ at → ⊥) → get_or text i 0 ≡ at
     → parts at text ≡ take i text ∷ parts at (drop (suc i) text)
 parts_at at [] i h none e = absurd (omega (arith, h))

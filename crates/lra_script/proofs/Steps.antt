@@ -1,4 +1,4 @@
--- What comes of what a line asks.
+-- The effects of what a line asks for.
 use Rattle.std.proofs.Common.{◌≡◌, ◌≤◌, ◌-◌, ◌==◌, ◌&&◌, inl, inr, ℕ, List, Bool, true, false, Option, None, Some, cond, refl, sym, ap, subst, ◌∙◌, arith, length, nat_le, slice_get}
 use Rattle.std.specs.Prelude.{IfSome, unwrap_or, option_map}
 use Rattle.std.proofs.lemmas.Bool.Decides.{nat_tests}
@@ -45,7 +45,7 @@ refused_by (Denied q) s t node c r e = refl
 refused_by AlreadyKnown s t node c r e = refl
 refused_by Accepted s t node c r e = absurd (never_refused (set_of s node) (front_of s node) node c r e)
 
--- a refused command enters nothing
+-- a refused command stores nothing
 refused_same : (s : State) (node : ℕ) (c : Command) → IsRefusal (reply_at s node c) → after_command s node c ≡ s
 refused_same s node c (r, e) = refused_by (judge (set_of s node) (front_of s node) node c) s (with_command s node c) node c r e
 
@@ -90,7 +90,7 @@ expires_nothing s t node None reply none h = h.1
 expires_nothing s t node (Some l) reply none h =
     h.1 ∙ refused_same s node (Decide l Cancel) (not_expired l (reply_at s node (Decide l Cancel)) (subst IsNothing h.0 none))
 
--- where nothing happened the state is the same
+-- if nothing happened, the state is the same
 nothing_stays : (s t : State) (event : Event) (reply : Reply) → IsNothing reply → Steps s event reply t → t ≡ s
 nothing_stays s t (ActEvent node c) reply none h = if_node_stays (is_node s node) s t _ reply (λ k. acts_nothing s t node c reply none k) h
 nothing_stays s t (SendEvent node base version) reply none h = if_node_stays (is_node s node) s t (Sends s node base version reply t) reply (λ k. sends_nothing s t node base version reply none k) h
@@ -103,7 +103,7 @@ nothing_stays s t (TickEvent node now) reply none h =
 pub nothing_happened : (s : State) (event : Event) (reply : Reply) (new : Machine) → Happens s event reply new → IsNothing reply → IsWorldOf s new
 nothing_happened s event reply new (t, steps, w) none = subst (λ (u : State). IsWorldOf u new) (nothing_stays s t event reply none steps) w
 
--- What a node enters
+-- What a node stores
 
 node_yes : (s : State) (m : Machine) (node : ℕ) → IsWorldOf s m → IsNodeOf (length m.replicas) node → is_node s node ≡ true
 node_yes s m node w is =
@@ -130,14 +130,14 @@ holds_at s m node kept w is view = record {
 view_from : (s : State) (node : ℕ) (kept : ReplicaState) → Holds (set_of s node) (front_of s node) kept → IsViewOf s.history (front_of s node) (view_of kept)
 view_from s node kept h = record { stands = h.stands; counts = h.counts }
 
--- two nodes of a world have equal views exactly where they have equal fronts
+-- two nodes of a world have equal views if and only if they have equal fronts
 pub same_told : (s : State) (one other : ℕ) (k l : ReplicaState) (out : List ℕ) → Holds (set_of s one) (front_of s one) k → Holds (set_of s other) (front_of s other) l
     → TellsSame (view_of k ≡ view_of l) out → TellsSame (front_of s one ≡ front_of s other) out
 same_told s one other k l out h g (inl (same, is)) = inl (sym h.counts ∙ ap (λ (v : View). v.front) same ∙ g.counts, is)
 same_told s one other k l out h g (inr (differ, is)) =
     inr (λ e. differ (same_view s.history (front_of s one) (front_of s other) (view_of k) (view_of l) e (view_from s one k h) (view_from s other l g)), is)
 
--- How many bytes come
+-- How many bytes arrive
 
 pub whole_coming : (s : State) (m : Machine) (number count : ℕ) → IsWorldOf s m → count ≡ unwrap_or (cond (number == 0) None (option_map length (slice_get m.sent (number - 1)))) 0 → IsWholeOf s number count
 whole_coming s m number count w e = by (number == 0) e

@@ -8,6 +8,6 @@ two (a ∷ []) x y low high e f = absurd (omega (arith, low))
 two (a ∷ b ∷ []) x y low high e f = ap (λ k. k ∷ b ∷ []) (sym e) ∙ ap (λ k. x ∷ k ∷ []) (sym f)
 two (a ∷ b ∷ c ∷ xs) x y low high e f = absurd (omega (arith, high))
 
--- what they are seen as is these two words, or not
+-- whether the elements are read as these two words
 pub both_words : {X : Type 0} (f : X → List ℕ) (xs : List X) (x y : X) (p q : List ℕ) → xs ≡ x ∷ y ∷ [] → f x ≡ p → f y ≡ q → map f xs ≡ p ∷ q ∷ []
 both_words f xs x y p q all e g = ap (map f) all ∙ ap (λ k. k ∷ f y ∷ []) e ∙ ap (λ k. p ∷ k ∷ []) g

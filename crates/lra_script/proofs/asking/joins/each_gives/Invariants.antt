@@ -3,7 +3,7 @@ use Rattle.std.specs.List.{list_all}
 use Rattle.lra_script.specs.Joins.{is_link_word}
 use Rattle.lra_script.proofs.asking.joins.each_gives.Given as goal
 
--- what is left tells the answer
+-- what is left determines the answer
 abbrev pub invariant-words : goal.invariant-words
 invariant-words l = list_all is_link_word l.words ≡ list_all is_link_word l.rest
 

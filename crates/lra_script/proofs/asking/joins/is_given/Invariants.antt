@@ -3,7 +3,7 @@ use Rattle.std.specs.List.{list_any}
 use Rattle.lra_script.specs.Joins.{gives}
 use Rattle.lra_script.proofs.asking.joins.is_given.Given as goal
 
--- what is left tells the answer
+-- what is left determines the answer
 abbrev pub invariant-words : goal.invariant-words
 invariant-words l = list_any (gives l.name) l.words ≡ list_any (gives l.name) l.rest
 

@@ -2,7 +2,7 @@ use Rattle.std.proofs.Common.{◌≡◌, length}
 use Rattle.lra_script.specs.Joins.{is_once}
 use Rattle.lra_script.proofs.asking.joins.is_once.Given as goal
 
--- what is left tells the answer
+-- what is left determines the answer
 abbrev pub invariant-words : goal.invariant-words
 invariant-words l = is_once l.name l.words ≡ is_once l.name l.rest
 

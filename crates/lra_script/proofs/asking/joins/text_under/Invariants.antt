@@ -2,7 +2,7 @@ use Rattle.std.proofs.Common.{◌≡◌, length}
 use Rattle.lra_script.specs.Joins.{text_under}
 use Rattle.lra_script.proofs.asking.joins.text_under.Given as goal
 
--- what is left tells the answer
+-- what is left determines the answer
 abbrev pub invariant-words : goal.invariant-words
 invariant-words l = text_under l.name l.words ≡ text_under l.name l.rest
 

@@ -7,7 +7,7 @@ use Rattle.lra_script.proofs.words.Words.is_done.Goals as goal
 left_of : Option (Bor (List ℕ)) → List (List ℕ)
 left_of rest = option_map_or (λ text. words_of text.now) rest []
 
--- nothing is left just where there is no rest
+-- nothing is left if and only if there is no rest
 done_is : (rest : Option (Bor (List ℕ))) (none : Bool) → is_some rest ≡ not none → (IsTrue none → left_of rest ≡ []) × (left_of rest ≡ [] → IsTrue none)
 unfolding left_of
 done_is None true e = (λ h. refl, λ h. search rules)
