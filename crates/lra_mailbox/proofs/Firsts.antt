@@ -197,7 +197,7 @@ true_false : (b : Bool) → b ≡ true → b ≡ false → ⊥
 true_false true t f = cc
 true_false false t f = cc
 
--- for none of the kinds within this many turns there is a task
+-- there is no task of a kind whose turn comes fewer than k turns after the last
 abbrev NoneBefore : Turn → (Turn → Bool) → ℕ → Type 0
 NoneBefore last is_there k = (j : ℕ) → 1 ≤ j → j < k → is_there (nth j last) ≡ false
 

@@ -219,7 +219,7 @@ busy_pauses who now place old new e p = let found = found_slip who place old.sli
   hosts = p.hosts;
 }
 
--- what a list brought stays as it was; otherwise it is the duty
+-- what a list brought is for the slip's own participant, as before; otherwise the duty is
 newest_stray : (duty : Duty) (old new : Slip) (brought : Option Duty) → old.kept ≡ brought → new.kept ≡ Some (newest brought duty) → new.who ≡ old.who → old.who ≡ called_of duty
     → bit (is_stray new) ≤ bit (is_stray old)
 newest_stray duty old new None was is same its = omega (arith, ap {B = ℕ} bit (not_stray duty new is (same ∙ its)))

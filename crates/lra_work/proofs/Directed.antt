@@ -98,7 +98,7 @@ query_behind rest =
     let long : nat_lt 10 size ≡ true = lt-ltb 10 size (omega arith) in
     rw long refl
 
--- what comes before the number of the asking node, or before the time to wait
+-- what comes before the number of the asking node: its pull waits, or it doesn't
 abbrev key_of : Bool → List ℕ
 key_of true = codes "wait="
 key_of false = codes "from="
