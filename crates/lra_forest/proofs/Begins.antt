@@ -1,4 +1,4 @@
--- begins, and what they name
+-- begins, and the parents that they name
 use Rattle.std.proofs.Common.{◌≡◌, inl, inr, List, [], ◌∷◌, refl, sym, ap, ◌∙◌, Bool, true, false, cond, Some, None}
 use Rattle.lra_id.specs.Ids.{Id, same_id}
 use Rattle.lra_facts.specs.declared.fact.Body.{Body}
@@ -42,7 +42,7 @@ parent_begin (g ∷ S) l p e = by (parent_begin S l p) (begins l g) refl e
     by rest true at e = (g, inl refl, at, e)
     by rest false at e = let found = rest e in (found.0, inr found.1, found.2, found.3)
 
--- one that has a parent was begun
+-- an LRA that has a parent was begun
 pub parent_begun : (S : List Fact) (l p : Id) → parent_of S l ≡ Some p → is_begun S l ≡ true
 parent_begun S l p e = let found = parent_begin S l p e in any_from (begins l) S found.0 found.1 found.2
 

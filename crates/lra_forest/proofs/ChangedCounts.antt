@@ -1,4 +1,4 @@
--- how many records there are once they are changed
+-- the number of records after they are changed
 use Rattle.std.proofs.Common.{◌≡◌, ◌<◌, ◌+◌, ◌==◌, ℕ, suc, List, [], ◌∷◌, refl, ap, subst, ◌∙◌, Bool, true, false, cond, arith, None, find, filter, is_none, length, nat_lt}
 use Rattle.std.specs.List.{AllByRecursion}
 use Rattle.std.proofs.lemmas.Bool.Decides.{nat_tests}
@@ -12,11 +12,11 @@ use Rattle.lra_forest.proofs.ChangedRecords.{without_are_of}
 use Rattle.lra_forest.proofs.Places.{beyond_all, none_of}
 use Rattle.lra_forest.proofs.Puts.{put_are_of, put_find}
 
--- none of these has its number
+-- none of the records has the number of r
 abbrev pub is_added : (home : ℕ) → List Record → Record → Bool
 is_added home own r = is_none (found_at home own r.num)
 
--- a record that is put in its place is one more, if none has its number
+-- putting a record in its place adds one record if none has its number
 length_put : (home : ℕ) (r : Record) (qs : List Record) → AreOf home qs → length (put_record r qs) ≡ length qs + cond (is_added home qs r) 1 0
 length_put home r [] h = omega arith
 length_put home r (q ∷ qs) h =
@@ -52,7 +52,7 @@ filter_alike p t (x ∷ xs) h = by (p x) (t x) h.0 (filter_alike p t xs h.1)
     by true false e rest = absurd cc
     by false true e rest = absurd cc
 
--- one that is put there is none of those with greater numbers
+-- a record that is put before changes with greater numbers is none of those changes
 added_after : (home : ℕ) (r : Record) (qs changed : List Record) → r.home ≡ home → AreOf home qs → AllByRecursion (λ (x : Record). r.num < x.num) changed → AllByRecursion (λ x. is_added home (put_record r qs) x ≡ is_added home qs x) changed
 added_after home r qs [] at h more = tt
 added_after home r qs (x ∷ changed) at h more =
@@ -60,7 +60,7 @@ added_after home r qs (x ∷ changed) at h more =
     let other : is_of (record { home = home; num = x.num }) r ≡ false = grind (arith, nat_tests, greater) in
     (ap is_none (put_find home r qs (record { home = home; num = x.num }) at h ∙ rw other refl), added_after home r qs changed at h more.1)
 
--- records that are put in their places are as many more as none has the number of
+-- putting records in their places adds as many records as have a number that none had before
 length_put_all : (home : ℕ) (changed own : List Record) → AreOf home changed → AreOf home own → length (put_all changed own) ≡ length own + length (filter (is_added home own) changed)
 length_put_all home [] own h g = omega arith
 length_put_all home (r ∷ changed) own h g =
@@ -74,15 +74,15 @@ length_put_all home (r ∷ changed) own h g =
     by true more all = omega (arith, more, all)
     by false more all = omega (arith, more, all)
 
--- once they are changed there are those that stay, and those that replace none of them
+-- after the changes there are the records that stay, and the changes that replace none of those
 pub length_changed : (home : ℕ) (removed : List Id) (changed own : List Record) → AreOf home changed → AreOf home own → length (changed_by removed changed own) ≡ length (without removed own) + length (filter (is_added home (without removed own)) changed)
 length_changed home removed changed own h g = length_put_all home changed (without removed own) h (without_are_of home removed own g)
 
--- the same for changes whose home is given as another's
+-- the same for changes whose home is given as that of another list
 pub length_after : (home there : ℕ) (removed : List Id) (changed own : List Record) → there ≡ home → AreOf there changed → AreOf home own → length (changed_by removed changed own) ≡ length (without removed own) + length (filter (is_added home (without removed own)) changed)
 length_after home there removed changed own same h g = length_changed home removed changed own (subst (λ n. AreOf n changed) same h) g
 
--- all stay where none is removed
+-- all records stay if none is removed
 pub all_stay : (removed : List Id) (rs : List Record) → length removed ≡ 0 → length (without removed rs) ≡ length rs
 all_stay [] [] none = refl
 all_stay [] (r ∷ rs) none = ap suc (all_stay [] rs refl)

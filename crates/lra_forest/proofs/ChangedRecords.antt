@@ -1,4 +1,4 @@
--- what is found among records that are changed
+-- what is found among records after they are changed
 use Rattle.std.proofs.Common.{◌≡◌, ◌≤◌, ◌<◌, ℕ, List, [], ◌∷◌, refl, sym, ap, subst, ◌∙◌, Bool, true, false, cond, arith, Option, Some, None, find, filter}
 use mathlib.Core.Bool.{not}
 use Rattle.std.specs.List.{list_any, AllByRecursion}
@@ -15,23 +15,23 @@ use Rattle.lra_forest.proofs.Places.{beyond_all, none_of}
 use Rattle.lra_forest.proofs.Puts.{put_are_of, put_find}
 use Rattle.lra_forest.proofs.Removals.{filter_are_of}
 
--- what is found of an LRA is its record
+-- a record that is found by home and number has that home and number
 pub found_own : (home num : ℕ) (rs : List Record) (r : Record) → found_at home rs num ≡ Some r → (r.home ≡ home) × (r.num ≡ num)
 found_own home num rs r e =
     let l : Id = record { home = home; num = num } in
     let own = (find_in (is_of l) rs r e).1 in
     (grind (arith, nat_tests, own), grind (arith, nat_tests, own))
 
--- what a test leaves of what is found
+-- a found record, if it passes the test
 abbrev pub keep : (Record → Bool) → Option Record → Option Record
 keep test None = None
 keep test (Some r) = cond (test r) (Some r) None
 
--- it is the record of none of these LRAs
+-- the record is of none of the removed LRAs
 abbrev pub stays : List Id → Record → Bool
 stays removed r = not (list_any (λ l. is_of l r) removed)
 
--- after one that is of l, none is
+-- no record after the one of l is of l
 pub none_after : (l : Id) (r : Record) (rs : List Record) → AllByRecursion (λ (x : Record). r.num < x.num) rs → is_of l r ≡ true → find (is_of l) rs ≡ None
 none_after l r rs h e =
     let same : l.num ≤ r.num = grind (arith, nat_tests, e) in
@@ -46,7 +46,7 @@ none_left test l (r ∷ rs) e = by (test r) (is_of l r) refl e (none_left test l
     by true false at e rest = rw at (rest e)
     by false false at e rest = rest e
 
--- among those that pass a test, what is found is what passes of what was found
+-- among the records that pass a test, the lookup finds what it found among all, if that passes
 pub find_filter : (test : Record → Bool) (l : Id) (rs : List Record) → IsAscending rs → find (is_of l) (filter test rs) ≡ keep test (find (is_of l) rs)
 find_filter test l [] h = refl
 find_filter test l (r ∷ rs) h = by (test r) refl (is_of l r) refl (find_filter test l rs h.1) (λ e. none_left test l rs (none_after l r rs h.0 e))
@@ -61,7 +61,8 @@ pub put_all_are_of : (home : ℕ) (changed own : List Record) → AllByRecursion
 put_all_are_of home [] own h g = g
 put_all_are_of home (r ∷ changed) own h g = put_all_are_of home changed (put_record r own) h.1 (put_are_of home r own h.0 g)
 
--- of records that are put in their places, what is found is one of them, else one that was there
+-- after records are put in their places, the lookup finds one of them, or else the record that was
+-- there
 pub find_put_all : (home : ℕ) (l : Id) (changed own : List Record) → AreOf home changed → AreOf home own → find (is_of l) (put_all changed own) ≡ option_or (find (is_of l) changed) (find (is_of l) own)
 find_put_all home l [] own h g = refl
 find_put_all home l (r ∷ changed) own h g =
@@ -81,16 +82,17 @@ without_are_of home removed own h = filter_are_of (stays removed) home own h
 pub changes_are_of : (home : ℕ) (removed : List Id) (changed own : List Record) → AreOf home changed → AreOf home own → AreOf home (changed_by removed changed own)
 changes_are_of home removed changed own h g = put_all_are_of home changed (without removed own) h.homes (without_are_of home removed own g)
 
--- of those that stay, one that is found is one that was found and is not removed
+-- among the records that stay, the lookup finds the record that was found before, if it is not
+-- removed
 pub found_kept : (home : ℕ) (removed : List Id) (own : List Record) (num : ℕ) → AreOf home own → found_at home (without removed own) num ≡ keep (stays removed) (found_at home own num)
 found_kept home removed own num h = find_filter (stays removed) (record { home = home; num = num }) own h.ascending
 
--- once they are changed, one of the changes is found, else one that stays
+-- after the changes, the lookup finds one of the changes, or else a record that stays
 pub found_changed : (home : ℕ) (removed : List Id) (changed own : List Record) (num : ℕ) → AreOf home changed → AreOf home own → found_at home (changed_by removed changed own) num ≡ option_or (found_at home changed num) (found_at home (without removed own) num)
 found_changed home removed changed own num h g =
     find_put_all home (record { home = home; num = num }) changed (without removed own) h (without_are_of home removed own g)
 
--- of those that stay, one that is there is found if it is not removed
+-- a record that was found is still found among those that stay, if it is not removed
 pub kept_some : (home : ℕ) (removed : List Id) (own : List Record) (num : ℕ) (r : Record) (b : Bool) → AreOf home own → Some r ≡ found_at home own num → b ≡ list_any (λ l. is_of l r) removed → cond b None (Some r) ≡ found_at home (without removed own) num
 kept_some home removed own num r b h e among =
     by b (list_any (λ l. is_of l r) removed) among ∙ ap (keep (stays removed)) e ∙ sym (found_kept home removed own num h)
@@ -104,7 +106,7 @@ kept_some home removed own num r b h e among =
 pub kept_none : (home : ℕ) (removed : List Id) (own : List Record) (num : ℕ) → AreOf home own → None ≡ found_at home own num → None ≡ found_at home (without removed own) num
 kept_none home removed own num h e = ap (keep (stays removed)) e ∙ sym (found_kept home removed own num h)
 
--- the same for changes whose home is given as another's
+-- the same for changes whose home is given as that of another list
 pub found_after : (home there : ℕ) (removed : List Id) (changed own : List Record) (num : ℕ) → there ≡ home → AreOf there changed → AreOf home own → option_or (found_at there changed num) (found_at home (without removed own) num) ≡ found_at home (changed_by removed changed own) num
 found_after home there removed changed own num same h g =
     ap (λ n. option_or (found_at n changed num) (found_at home (without removed own) num)) same

@@ -1,4 +1,4 @@
--- what the walks from the records of a home find is all that is due to compensate
+-- what the walks from the records of a home find is exactly what is due to compensate
 use Rattle.std.proofs.Common.{◌≡◌, ◌≤◌, ◌&&◌, ◌+◌, ◌++◌, ℕ, zero, suc, List, [], ◌∷◌, refl, sym, ap, subst, ◌∙◌, Bool, true, false, cond, arith, Option, Some, None, filter_map, length, take}
 use mathlib.Core.Bool.{not}
 use Rattle.std.specs.List.{AllByRecursion, cons_option}
@@ -29,7 +29,7 @@ use Rattle.lra_forest.proofs.DutiesOfAHome.{some_at}
 use Rattle.lra_forest.proofs.CompensationUnderAnLra.{found_number, none_pending, none_top, not_topmost, one_due, topmost_of_nested, walked_at}
 use Rattle.lra_forest.proofs.RecordsOfASet.{found_is, found_parent, found_root, held_if_found, held_parent}
 
--- the records have the same LRA topmost as the set
+-- the records name the same topmost LRAs as the set
 topmost_said : (nodes home : ℕ) (S : List Fact) (records : List Record) (r : Record) → IsWhole S → IsNested S → Stands nodes home S records → found_at home records r.num ≡ Some r → is_topmost_at (found_at home records) r ≡ is_topmost S (at home r.num)
 topmost_said nodes home S records r whole nest stands found = by (wants_cancel r.decision) r.parent refl refl
   where

@@ -37,7 +37,7 @@ use Rattle.lra_forest.proofs.Overdue.{at, held_number}
 use Rattle.lra_forest.proofs.OwedMembers.{owed_all}
 use Rattle.lra_forest.proofs.RecordsOfASet.{found_is, found_parent, found_root, held_if_found, stands_at}
 
--- how a participant that is found joined
+-- what is known of a participant that is found: how it joined
 pub record IsJoined (S : List Fact) (l : Id) (m : ℕ) (p : ParticipantRecord) : Type 0 where
   pub given : Links
   pub links : links_of S l m ≡ Some given
@@ -76,7 +76,7 @@ due_owes Tell S l m p seated found =
     let j = joined_is S l m p seated found in
     rw (j.links, j.stayed) (after_owes S l m j.given (is_at_end S l) refl) ∙ ap (owes (owing_of Tell S l)) j.is
 
--- it is still to be told by its record as by the set
+-- by its record a participant is still to be told exactly if the set says so
 pub untold_unheard : (S : List Fact) (l : Id) (m : ℕ) (p : ParticipantRecord) → IsSeated S → participant_at (numbered (members_of S l) m) ≡ Some p → is_untold S l m ≡ is_unheard p
 untold_unheard S l m p seated found =
     let j = joined_is S l m p seated found in
@@ -91,7 +91,7 @@ due_none Complete S l m seated none = rw (unknown_is S l m seated none) refl
 due_none Forget S l m seated none = rw (unknown_is S l m seated none) refl
 due_none Tell S l m seated none = rw (unknown_is S l m seated none) refl
 
--- an LRA is nested where its record has a parent
+-- an LRA is nested exactly if its record has a parent
 pub nested_is : (nodes : ℕ) (S : List Fact) (records : List Record) (x : Id) (r : Record) → IsWhole S → Stands nodes x.home S records → find (is_of x) records ≡ Some r → is_some r.parent ≡ not (is_root S x)
 nested_is nodes S records x r whole stands found = by r.parent refl
   where
@@ -102,7 +102,7 @@ nested_is nodes S records x r whole stands found = by r.parent refl
     by None e = ap is_some e ∙ sym (ap (λ o. not (is_none o)) (found_root nodes S records x r stands held found e))
     by (Some p) e = ap is_some e ∙ sym (ap (λ o. not (is_none o)) (found_parent nodes S records x r p whole stands held found e))
 
--- those of the records so far
+-- the list holds what is due by the records so far
 abbrev pub AreDoneSoFar : Errand → ℕ → List Fact → List Record → List Due → Type 0
 AreDoneSoFar errand home S rs dues = AreAll (Owned (IsDueAt home S (duty_of errand)) (λ d. d.lra.num) rs) is_before dues
 

@@ -1,4 +1,4 @@
--- what `==` says of records: it is true of equal ones, and of no others
+-- `==` of records is true of equal records, and of no others
 use Rattle.std.proofs.Common.{◌≡◌, ◌&&◌, ◌==◌, ◌++◌, ◌-◌, ◌∷◌, [], ℕ, List, refl, sym, ap, subst, ◌∙◌, Bool, true, false, Option, Some, None, length, replicate}
 use Rattle.std.specs.Bool.{Decides, beq}
 use Rattle.std.specs.Option.{option_eq}
@@ -26,11 +26,11 @@ use Rattle.lra_forest.specs.contracts.record.RecordPartialEq.TheImpl as of_recor
 use Rattle.lra_forest.proofs.Bools.{and_left, and_right}
 use Rattle.lra_forest.proofs.MembersAndStamps.{same_record}
 
--- the test is true of equal ones alone
+-- the test is true only of equal values
 abbrev pub Same : {X : Type 0} → (X → X → Bool) → Type 0
 Same {X} test = (a b : X) → test a b ≡ true → a ≡ b
 
--- and of all of them
+-- the test is true of each value and itself
 abbrev pub Own : {X : Type 0} → (X → X → Bool) → Type 0
 Own {X} test = (a : X) → test a a ≡ true
 
@@ -108,7 +108,7 @@ prefix_same (x ∷ xs) (y ∷ ys) zs ws e s =
     let long : length xs ≡ length ys = cc in
     ap (λ z. z ∷ xs) first ∙ ap (λ zs. y ∷ zs) (prefix_same xs ys zs ws long rest)
 
--- a front is compared as it is kept
+-- `==` of two fronts compares them as they are kept, filled up with zeros to 8 counts
 front_is : (a b : List ℕ) → of_fronts.ghosts.eq a b ≡ ((length a == length b) && bytes_eq (a ++ replicate (8 - length a) 0) (b ++ replicate (8 - length b) 0))
 front_is a b = refl
 
@@ -248,10 +248,10 @@ record_own a =
     (all_true (same_decision a.decision a.decision) _ (option_own of_verdicts.ghosts.eq verdict_own a.decision)
     (all_true (of_fronts.ghosts.eq a.stamps a.stamps) _ (front_own a.stamps) ((members_decide a.members a.members).1 refl))))))
 
--- `==` of two records says whether they are one
+-- `==` of two records decides whether they are equal
 pub record_decides : (a b : Record) → Decides (of_records.ghosts.eq a b) (a ≡ b)
 record_decides a b = decided of_records.ghosts.eq record_same record_own a b
 
--- `==` of two lists of records says whether they are one
+-- `==` of two lists of records decides whether they are equal
 pub records_decide : (a b : List Record) → Decides (pointwise of_records.ghosts.eq a b) (a ≡ b)
 records_decide a b = pointwise_decides (decided of_records.ghosts.eq record_same record_own) a b

@@ -11,12 +11,12 @@ use Rattle.lra_forest.specs.Standing.{AreOnce, IsSeated}
 use Rattle.lra_facts.proofs.Membership.{filter_in, in_filter}
 use Rattle.lra_forest.proofs.Bools.{all_in, all_from}
 
--- each has a lesser number than those after it
+-- each fact has a lesser number than those after it
 abbrev pub Ascend : List Fact → Type 0
 Ascend [] = Unit {0}
 Ascend (f ∷ fs) = AllByRecursion (λ g. f.num < g.num) fs × Ascend fs
 
--- no two have one number
+-- no two facts have the same number
 abbrev pub Differ : List Fact → Type 0
 Differ [] = Unit {0}
 Differ (f ∷ fs) = AllByRecursion (λ g. f.num ≡ g.num → ⊥) fs × Differ fs
@@ -107,7 +107,7 @@ length_put t f (g ∷ fs) = by (nat_le f.num g.num) (length_put t f fs)
     by true rest = refl
     by false rest = swapped (t f) (t g) (more (t g) rest)
 
--- how many pass a test does not go by the order
+-- the number of facts that pass a test does not depend on their order
 pub length_by_number : (t : Fact → Bool) (fs : List Fact) → length (filter t (by_number fs)) ≡ length (filter t fs)
 length_by_number t [] = refl
 length_by_number t (f ∷ fs) = length_put t f (by_number fs) ∙ by (t f) (length_by_number t fs)
@@ -162,7 +162,7 @@ in_get [] x m = absurd m
 in_get (y ∷ xs) x (inl s) = (0, ap (λ z. Some z) (sym s))
 in_get (y ∷ xs) x (inr m) = let rest = in_get xs x m in (suc rest.0, rest.1)
 
--- before the one at a place stand as many as the place says
+-- as many facts stand before the one at a place as the place says
 pub place_is : (fs : List Fact) (i : ℕ) (f : Fact) → Ascend fs → slice_get fs i ≡ Some f → length (filter (λ g. nat_lt g.num f.num) fs) ≡ i
 place_is [] i f h e = absurd cc
 place_is (g ∷ fs) zero f h e =

@@ -66,7 +66,7 @@ first_alike : (P Q : Due → Type 0) (o : Option Due) → ((x : Due) → P x →
 first_alike P Q None there back h = λ x q. h x (back x q)
 first_alike P Q (Some y) there back h = (there y h.0, λ x q. h.1 x (back x q))
 
--- there is just one
+-- two answers that are each the first are the same
 one_first : (P : Due → Type 0) (o p : Option Due) → ((x y : Due) → P x → P y → x.lra.home ≡ y.lra.home) → IsFirst P is_before o → IsFirst P is_before p → o ≡ p
 one_first P None None home h k = refl
 one_first P None (Some y) home h k = absurd (h y k.0)
@@ -110,12 +110,12 @@ least_first due S l (f ∷ facts) = by (due_by due S l f.body) refl (least_due d
     )
     by (Some x) e (Some y) h = lesser x y e h (is_before y x) refl
 
--- it is under l, and this is due of it
+-- d is under l, and this is due of it
 pub record IsDueBeneath (due : List Fact → Id → ℕ → Bool) (S : List Fact) (l : Id) (d : Due) : Type 0 where
   pub under : is_under S l d.lra ≡ true
   pub owed : due S d.lra d.member ≡ true
 
--- of participants alone
+-- the errand is due of participants only
 abbrev pub IsOfParticipants : (List Fact → Id → ℕ → Bool) → List Fact → Type 0
 IsOfParticipants due S = (l : Id) (m : ℕ) → due S l m ≡ true → is_participant S l m ≡ true
 
@@ -145,7 +145,7 @@ tells due S l d known h = joined (links_of S d.lra d.member) refl (and_left (is_
         let own : due_by due S l (Join d.lra d.member links) ≡ Some d = rw (h.under, h.owed) refl in
         (f.0, f.1, ap (due_by due S l) f.2 ∙ own)
 
--- the first of which this is due is the least
+-- the first participant of which this is due is the least by the facts
 pub least_is : (due : List Fact → Id → ℕ → Bool) (S : List Fact) → AllByRecursion NamesEarlier S → IsOfParticipants due S → (l : Id) (o : Option Due) → IsFirst (IsDueBeneath due S l) is_before o → o ≡ least_due due S S l
 least_is due S nested known l o h =
     one_first (IsDueBeneath due S l) o (least_due due S S l) home h
@@ -156,8 +156,8 @@ least_is due S nested known l o h =
 
 -- One record
 
--- the first of its members that is to be told
--- the record tells of each participant what the set has due of it
+-- the first of its members that is to be told: the record tells of each participant what the set
+-- has due of it
 pub record Tells (due : List Fact → Id → ℕ → Bool) (passes : ParticipantRecord → Bool) (S : List Fact) (l : Id) : Type 0 where
   pub owing : Owing
   pub passing : Agrees passes owing
@@ -212,7 +212,7 @@ one_below due passes nodes S home records root r tells whole nest numbers stands
 
 -- All records
 
--- it is one of these records' that is to be told
+-- the participant belongs to one of these records and is to be told
 abbrev IsAmong : (List Fact → Id → ℕ → Bool) → List Fact → Id → List Record → Due → Type 0
 IsAmong due S root rs d = (q : Record) × In q rs × IsDueBelow due S root q.num d
 
@@ -237,7 +237,7 @@ first_more due S root r rs o rest after = by o rest
       ],
     )
 
--- each record tells what is due, whichever the records are
+-- each record tells what is due, for any list of records
 abbrev pub EachTells : (List Fact → Id → ℕ → Bool) → (Record → ParticipantRecord → Bool) → List Fact → ℕ → List Record → Type 0
 EachTells due passes S home records = (r : Record) → find (is_of (at home r.num)) records ≡ Some r → Tells due (passes r) S (at home r.num)
 
@@ -249,7 +249,7 @@ firsts due passes nodes S home records root tells whole nest numbers stands own 
     (one_below due passes nodes S home records root r (tells r (found r (inl refl))) whole nest numbers stands (found r (inl refl)) own)
     (firsts due passes nodes S home records root tells whole nest numbers stands own rs order.1 (λ q i. found q (inr i)))
 
--- the first of the records in order is the least of the facts
+-- the first duty of the records in order is the least by the facts
 least_of_all : (due : List Fact → Id → ℕ → Bool) (passes : Record → ParticipantRecord → Bool) (nodes home : ℕ) (S : List Fact) (records : List Record) (root : Id) → EachTells due passes S home records → IsOfParticipants due S → IsWhole S → IsNested S → AllByRecursion IsNumbered S → AreOf home records → Stands nodes home S records → root.home ≡ home → is_held S root ≡ true
     → least_below passes (found_at home records) root.num records ≡ least_due due S S root
 least_of_all due passes nodes home S records root tells known whole nest numbers order stands own held =
@@ -265,7 +265,7 @@ least_of_all due passes nodes home S records root tells known whole nest numbers
         let inside = find_in (is_of d.lra) records (record_of nodes S d.lra) found in
         (record_of nodes S d.lra, inside.0, record { number = refl; under = h.under; owed = h.owed })
 
--- the least that is to be told to forget
+-- the least participant that is to be told to forget is the same by the records and by the set
 pub least_said : (nodes home : ℕ) (S : List Fact) (records : List Record) (root : Id) → IsWhole S → IsNested S → IsSeated S → AllByRecursion IsNumbered S → AreOf home records → Stands nodes home S records → root.home ≡ home → is_held S root ≡ true
     → least_owed_of (found_at home records) root.num records ≡ least_forget S root
 least_said nodes home S records root whole nest seated numbers order stands own held =
@@ -280,7 +280,8 @@ least_said nodes home S records root whole nest seated numbers order stands own 
           none = λ m none. due_none Forget S (at home r.num) m seated none;
         }
 
--- the least that is to be told that its LRA has ended, now or later
+-- the least participant that is to be told of the end of its LRA, now or later, is the same by the
+-- records and by the set
 pub least_untold_said : (nodes home : ℕ) (S : List Fact) (records : List Record) (root : Id) → IsWhole S → IsNested S → IsSeated S → AllByRecursion IsNumbered S → AreOf home records → Stands nodes home S records → root.home ≡ home → is_held S root ≡ true
     → least_unheard_of (found_at home records) root.num records ≡ least_untold S root
 least_untold_said nodes home S records root whole nest seated numbers order stands own held =

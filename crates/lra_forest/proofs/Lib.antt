@@ -1,4 +1,4 @@
--- What each file shows, by what it serves. Crates above may cite those marked `pub`.
+-- What each file proves, grouped by purpose. Crates above may cite those marked `pub`.
 
 -- ---- Tests, and lists that are gathered
 pub mod Bools  -- tests, and what holds of each element

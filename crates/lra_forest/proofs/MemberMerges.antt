@@ -25,7 +25,7 @@ length_merged (suc i) [] ys = refl
 length_merged (suc i) (x ∷ xs) [] = ap suc (length_merged i xs [])
 length_merged (suc i) (x ∷ xs) (y ∷ ys) = ap suc (length_merged i xs ys)
 
--- the next is taken out, and put back merged
+-- the next member is taken out, merged, and put back
 pub merged_more : (i : ℕ) (xs ys : List Member) (a : Member) → slice_get (merged_to i xs ys) i ≡ Some a
     → set (set (merged_to i xs ys) i Left) i (merged_member a (slice_get ys i)) ≡ merged_to (suc i) xs ys
 merged_more zero [] ys a there = absurd cc
@@ -40,12 +40,12 @@ merged_all [] ys = refl
 merged_all (x ∷ xs) [] = ap (λ r. merged_member x None ∷ r) (merged_all xs [])
 merged_all (x ∷ xs) (y ∷ ys) = ap (λ r. merged_member x (Some y) ∷ r) (merged_all xs ys)
 
--- a participant stays as it is where all that is heard of it does
+-- a participant stays as it is if all outcomes heard of it stay
 pub participant_stays : (p q : ParticipantRecord) → cond (is_some p.links.complete) (greater p.completed q.completed) None ≡ p.completed → cond (is_some p.links.compensate) (greater p.compensated q.compensated) None ≡ p.compensated
     → (is_some p.links.forget && (p.forgotten || q.forgotten)) ≡ p.forgotten → (is_some p.links.after && (p.told || q.told)) ≡ p.told → merged_participant p q ≡ p
 participant_stays p q completed compensated forgotten told = rw (completed, compensated, forgotten, told) refl
 
--- the next stays as it is
+-- the first members still stay if the next one stays as it is
 pub stays_more : (i : ℕ) (xs ys : List Member) (a : Member) → merged_to i xs ys ≡ xs → i < length xs → a ≡ get_or xs i a → merged_member a (slice_get ys i) ≡ a → merged_to (suc i) xs ys ≡ xs
 stays_more i [] ys a so less is stays = absurd (omega (arith, less))
 stays_more zero (x ∷ xs) [] a so less is stays = ap (λ m. m ∷ xs) (ap (λ m. merged_member m None) (sym is) ∙ stays ∙ is)
@@ -59,18 +59,18 @@ stays_more (suc i) (x ∷ xs) (y ∷ ys) a so less is stays =
     let rest : merged_to i xs ys ≡ xs = cc in
     ap (λ m. m ∷ merged_to (suc i) xs ys) first ∙ ap (λ ms. x ∷ ms) (stays_more i xs ys a rest (omega (arith, less)) is stays)
 
--- the one with the next number
+-- the member with number i + 1 stands at place i
 pub numbered_next : (ys : List Member) (i : ℕ) → numbered ys (i + 1) ≡ slice_get ys i
 numbered_next ys i =
     let some : (i + 1 == 0) ≡ false = grind (arith, nat_tests) in
     let back : i + 1 - 1 ≡ i = omega arith in
     ap (λ b. cond b None (slice_get ys (i + 1 - 1))) some ∙ ap (slice_get ys) back
 
--- a record stays as it is where the other's stamps are no greater, and its members stay
+-- a record stays as it is if the other's stamps are no greater and its members stay
 pub record_stays : (r t : Record) → nat_le (home_stamp t) (home_stamp r) ≡ true → join_fronts r.stamps t.stamps ≡ r.stamps → merged_members r.members t.members ≡ r.members → merged_record r t ≡ r
 record_stays r t first stamps members = rw (first, stamps, members) refl
 
--- Members of which it is the same which is merged into the other
+-- Members for which the order of merging doesn't matter
 
 greater_swaps : (a b : Option Outcome) → greater a b ≡ greater b a
 greater_swaps None None = refl
@@ -107,7 +107,7 @@ participants_swap p q same =
 abbrev pub Swap : Member → Member → Type 0
 Swap m n = merged_member m (Some n) ≡ merged_member n (Some m)
 
--- it is so of the first i members
+-- for the first i members the order of merging doesn't matter
 abbrev pub SwapTo : ℕ → List Member → List Member → Type 0
 SwapTo zero xs ys = Unit {0}
 SwapTo (suc i) [] ys = Unit {0}

@@ -28,7 +28,7 @@ number_some n l f a e = by (gives_number l f.body) (nat_lt n f.num) refl refl e
     by true false s t e = absurd cc
     by false c s t e = absurd cc
 
--- the least number above n of those that give a number
+-- k is the least number above n of the facts that give a number
 record IsLeast (n : ℕ) (l : Id) (S : List Fact) (k : ℕ) : Type 0 where
   pub fact : Fact
   pub inside : In fact S
@@ -37,7 +37,7 @@ record IsLeast (n : ℕ) (l : Id) (S : List Fact) (k : ℕ) : Type 0 where
   pub number : k ≡ fact.num
   pub least : (g : Fact) → In g S → gives_number l g.body ≡ true → nat_lt n g.num ≡ true → k ≤ g.num
 
--- what the least number above n says
+-- what the answer for the least number above n means
 abbrev Says : ℕ → Id → List Fact → Option ℕ → Type 0
 Says n l S None = (f : Fact) → In f S → gives_number l f.body ≡ true → nat_lt n f.num ≡ true → ⊥
 Says n l S (Some k) = IsLeast n l S k
@@ -148,7 +148,7 @@ same_number a b e = grind (arith, nat_tests, e)
 equal_number : (a b : ℕ) → (a == b) ≡ true → a ≡ b
 equal_number a b e = grind (arith, nat_tests, e)
 
--- the fact that was found comes next of the givers
+-- the fact that was found is the next giver
 pub next_some : (n : ℕ) (l : Id) (S : List Fact) (f : Fact) → Ascend (givers S l) → next_giver n l S ≡ Some f → filter (λ x. nat_lt n x.num) (givers S l) ≡ f ∷ filter (λ x. nat_lt f.num x.num) (givers S l)
 next_some n l S f order e = by (least_above n l S) (least_says n l S) e
   where
@@ -163,7 +163,7 @@ next_some n l S f order e = by (least_above n l S) (least_says n l S) e
         let inside = giver_in S l g i in
         omega (arith, number, says.least g inside.0 inside.1 t))
 
--- and where there is none, there are no more
+-- and if none is found, there are no more givers above n
 pub next_none : (n : ℕ) (l : Id) (S : List Fact) → next_giver n l S ≡ None → filter (λ x. nat_lt n x.num) (givers S l) ≡ []
 next_none n l S e = by (least_above n l S) (least_says n l S) e
   where
@@ -172,7 +172,7 @@ next_none n l S e = by (least_above n l S) (least_says n l S) e
     by (Some k) says e =
         absurd (find_misses (λ (x : Fact). gives_number l x.body && (x.num == k)) S says.fact says.inside (rw says.gives (same_number k says.fact.num says.number)) e)
 
--- all givers are above 0
+-- all givers have numbers above 0
 numbers_above : (S : List Fact) → AllByRecursion IsNumbered S → AllByRecursion (λ x. 0 < x.num) S
 numbers_above [] h = tt
 numbers_above (f ∷ S) h = (h.0.0, numbers_above S h.1)
@@ -196,7 +196,7 @@ append_one : {X : Type 0} (xs ys : List X) (x : X) → (xs ++ x ∷ []) ++ ys �
 append_one [] ys x = refl
 append_one (y ∷ xs) ys x = ap (λ zs. y ∷ zs) (append_one xs ys x)
 
--- one more member is that of the next giver
+-- one more member is made of the next giver
 pub members_step : (S : List Fact) (l : Id) (n : ℕ) (f : Fact) (ms new : List Member) (made : Member) → IsRecordable S → next_giver n l S ≡ Some f → made ≡ member_by S l f.num f.body → new ≡ ms ++ made ∷ [] → ms ++ map (λ g. member_by S l g.num g.body) (filter (λ x. nat_lt n x.num) (givers S l)) ≡ members_of S l → new ++ map (λ g. member_by S l g.num g.body) (filter (λ x. nat_lt f.num x.num) (givers S l)) ≡ members_of S l
 members_step S l n f ms new made kept next is pushed rest =
     let show : Fact → Member = λ g. member_by S l g.num g.body in
@@ -208,7 +208,7 @@ members_step S l n f ms new made kept next is pushed rest =
     ∙ ap (λ (xs : List Member). ms ++ xs) (sym first)
     ∙ rest
 
--- where there is no next giver, they are all
+-- if there is no next giver, the members are complete
 pub members_done : (S : List Fact) (l : Id) (n : ℕ) (ms : List Member) → next_giver n l S ≡ None → ms ++ map (λ g. member_by S l g.num g.body) (filter (λ x. nat_lt n x.num) (givers S l)) ≡ members_of S l → ms ≡ members_of S l
 members_done S l n ms none rest =
     sym (append_none ms) ∙ ap (λ (fs : List Fact). ms ++ map (λ g. member_by S l g.num g.body) fs) (sym (next_none n l S none)) ∙ rest
@@ -231,7 +231,7 @@ set_after : (xs ys : List ℕ) (y v : ℕ) → slice_set (xs ++ y ∷ ys) (lengt
 set_after [] ys y v = refl
 set_after (x ∷ xs) ys y v = ap (λ zs. x ∷ zs) (set_after xs ys y v)
 
--- the counts of the first nodes, and zeros
+-- the counts of the first i nodes, followed by zeros
 abbrev pub first_nodes : (ℕ → ℕ) → ℕ → ℕ → List ℕ
 first_nodes g n i = map g (nodes_to i) ++ replicate (n - i) 0
 

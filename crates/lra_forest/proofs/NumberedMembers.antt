@@ -48,7 +48,7 @@ joined_at l m (Forgot id member) links e = absurd cc
 joined_at l m (Told id member) links e = absurd cc
 joined_at l m (Purge root) links e = absurd cc
 
--- links are those of a join
+-- the links of a participant are those of a join in the set
 pub join_found : (S : List Fact) (l : Id) (m : ℕ) (links : Links) → links_of S l m ≡ Some links → (f : Fact) × In f S × (f.body ≡ Join l m links)
 join_found [] l m links e = absurd cc
 join_found (f ∷ S) l m links e = by (join_found S l m links) (joined_links l m f.body) refl e
@@ -57,7 +57,7 @@ join_found (f ∷ S) l m links e = by (join_found S l m links) (joined_links l m
     by rest None t e = let found = rest e in (found.0, inr found.1, found.2)
     by rest (Some given) t e = (f, inl refl, joined_at l m f.body links (t ∙ e))
 
--- and a join has links
+-- and a participant that a fact joins has links
 pub join_links : (S : List Fact) (l : Id) (m : ℕ) (links : Links) (f : Fact) → In f S → f.body ≡ Join l m links → links_of S l m ≡ None → ⊥
 join_links [] l m links f i e none = i
 join_links (g ∷ S) l m links f i e none = by (join_links S l m links f) (joined_links l m g.body) refl i none

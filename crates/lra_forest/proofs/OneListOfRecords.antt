@@ -22,7 +22,7 @@ num_of home num x e = (Decides-eqb x.num num).0 (and_right (x.home == home) (x.n
 own_first : (home : ℕ) (x : Record) (xs : List Record) → x.home ≡ home → find (is_of (at home x.num)) (x ∷ xs) ≡ Some x
 own_first home x xs e = let own = is_own home x e in rw own refl
 
--- what is found after one that comes first
+-- a record that is found among records with numbers above n has a number above n
 found_after : (n : ℕ) (t : Record → Bool) (xs : List Record) (x : Record) → AllByRecursion (λ (q : Record). n < q.num) xs → find t xs ≡ Some x → n < x.num
 found_after n t [] x h e = absurd cc
 found_after n t (y ∷ ys) x h e = by (found_after n t ys x h.1) (t y) e
@@ -38,7 +38,8 @@ first_or_after y x ys t h e = by (t y) e
     by true s = inl cc
     by false s = inr (found_after y.num t ys x h s)
 
--- of two that are each found where the other is, neither comes after the other
+-- if each of two records is found where the other is, neither comes after the other, so they are
+-- one
 same_first : (x y : Record) → (y ≡ x) ⊎ (y.num < x.num) → (x ≡ y) ⊎ (x.num < y.num) → x ≡ y
 same_first x y (inl e) s = sym e
 same_first x y (inr l) (inl e) = e

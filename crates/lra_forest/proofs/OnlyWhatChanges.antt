@@ -1,4 +1,4 @@
--- only what changes is put and removed, each once
+-- only records that change are put and removed, each once
 use Rattle.std.proofs.Common.{◌≡◌, ◌<◌, ◌+◌, ◌==◌, ◌&&◌, ◌∷◌, ℕ, zero, suc, List, [], inl, inr, filter, map, refl, sym, ap, subst, ◌∙◌, Bool, true, false, cond, arith, Option, Some, None, nat_le, is_some, is_none}
 use Rattle.std.specs.List.{AllByRecursion, slice_index}
 use Rattle.std.specs.List.Sorted.{IsStrictlyIncreasing}
@@ -29,7 +29,7 @@ found_self home (q ∷ rs) r h (inr i) =
     ap (λ b. cond b (Some q) (found_at home rs r.num)) (by_number home r.num q h.homes.0 ∙ test)
     ∙ found_self home rs r (record { homes = h.homes.1; ascending = h.ascending.1 }) i
 
--- what holds of the LRA of each record that passes a test
+-- a property of the LRA of each record that passes a test holds of all their ids
 all_ids : (P : Id → Type 0) (test : Record → Bool) (rs : List Record) → ((r : Record) → In r rs → test r ≡ true → P (id_of r)) → AllByRecursion P (map id_of (filter test rs))
 all_ids P test [] h = tt
 all_ids P test (r ∷ rs) h = by (test r) refl (all_ids P test rs (λ q i. h q (inr i)))
@@ -38,7 +38,7 @@ all_ids P test (r ∷ rs) h = by (test r) refl (all_ids P test rs (λ q i. h q (
     by true e rest = (h r (inl refl) e, rest)
     by false e rest = rest
 
--- the numbers of records that are in order rise
+-- the numbers of records in order rise
 rising : (rs : List Record) → IsAscending rs → IsStrictlyIncreasing (map (λ (l : Id). l.num) (map id_of rs))
 rising [] h k within = absurd (omega (arith, within))
 rising (r ∷ []) h k within = absurd (omega (arith, within))
@@ -52,7 +52,7 @@ not_put : (held put : Option Record) (covered : Bool) → IsPut held (brought co
 not_put held None covered is = refl
 not_put held (Some r) covered is = absurd (let no = is.0 in cc)
 
--- the LRAs of the records that pass a test are those of records that are there, in order
+-- the LRAs of the records that pass a test are those of existing records, in order
 pub ids_alone : (home : ℕ) (test : Record → Bool) (own : List Record) → AreOf home own → AreOnlyChanges home own (map id_of (filter test own)) []
 ids_alone home test own h =
     record {
@@ -90,7 +90,7 @@ only_changes home told mine held own theirs put removed h order is gone =
         (subst (λ (o : Option Record). IsPut (found_at home own num) (brought (nat_le num mine) (found_at home own num) o) (found_at home put num)) e (is num))
     none num (Some x) e t = absurd cc
 
--- none is lost where it isn't told what is held
+-- no LRA is lost if the other node doesn't tell what it holds
 pub none_lost : (home told : ℕ) (theirs rs : List Record) → ids_lost home told None theirs rs ≡ []
 none_lost home told theirs [] = refl
 none_lost home told theirs (r ∷ rs) =

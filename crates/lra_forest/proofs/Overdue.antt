@@ -43,7 +43,7 @@ find_at home (q ∷ rs) (suc i) r h less is =
     let other : is_of (at home r.num) q ≡ false = grind (arith, nat_tests, after) in
     rw other (find_at home rs i r (record { homes = h.homes.1; ascending = h.ascending.1 }) (omega (arith, less)) is)
 
--- whether an LRA is overdue, by its record and what it wants
+-- whether an LRA is overdue depends on its record and on what it wants
 pub overdue_by : (nodes : ℕ) (S : List Fact) (records : List Record) (now : ℕ) (x : Id) (r : Record) → Stands nodes x.home S records → find (is_of x) records ≡ Some r → is_overdue S now x ≡ (is_past r.deadline now && is_none (want S x))
 overdue_by nodes S records now x r stands found =
     let held = held_if_found nodes S records x r stands found in
@@ -88,7 +88,7 @@ found_in home (q ∷ rs) r h (inr i) =
     let other : is_of (at home r.num) q ≡ false = grind (arith, nat_tests, after) in
     rw other (found_in home rs r (record { homes = h.homes.1; ascending = h.ascending.1 }) i)
 
--- where none is found, none passes
+-- if none is found, no record passes the test
 none_passes : (p : Record → Bool) (rs : List Record) (q : Record) → find p rs ≡ None → In q rs → p q ≡ false
 none_passes p [] q e i = absurd i
 none_passes p (x ∷ rs) q e i = by (none_passes p rs q) (p x) refl e i
@@ -98,7 +98,7 @@ none_passes p (x ∷ rs) q e i = by (none_passes p rs q) (p x) refl e i
     by rest false t e (inl same) = ap p same ∙ t
     by rest false t e (inr i) = rest e i
 
--- and none with a lesser number than the one that is found
+-- and no record with a lesser number than the found one passes it
 lesser_fails : (p : Record → Bool) (rs : List Record) (r q : Record) → IsAscending rs → find p rs ≡ Some r → In q rs → q.num < r.num → p q ≡ false
 lesser_fails p [] r q h e i less = absurd i
 lesser_fails p (x ∷ rs) r q h e i less = by (λ found inside. lesser_fails p rs r q h.1 found inside less) (p x) refl e i
@@ -112,7 +112,7 @@ lesser_fails p (x ∷ rs) r q h e i less = by (λ found inside. lesser_fails p r
 pub number_passes : (n : ℕ) → IsFactNumber n → is_fact_number n ≡ true
 number_passes n is = let low = is.0 in let high = is.1 in grind (arith, nat_tests, low, high)
 
--- a record tells of its LRA what the set does
+-- a record says of its LRA whether it is late, as the set does
 late_alike : (nodes home : ℕ) (S : List Fact) (records : List Record) (now : ℕ) (r : Record) → AreOf home records → IsWhole S → IsNested S → AllByRecursion IsNumbered S → Stands nodes home S records → In r records
     → is_overdue_at (found_at home records) now r ≡ is_overdue S now (at home r.num)
 late_alike nodes home S records now r order whole nest numbered stands i =
@@ -122,7 +122,7 @@ late_alike nodes home S records now r order whole nest numbered stands i =
     ∙ ap (λ (w : Option Verdict). is_past r.deadline now && is_none w) (want_said nodes S records (at home r.num) whole nest stands held)
     ∙ sym (overdue_by nodes S records now (at home r.num) r stands found)
 
--- the LRA of the first record is the least
+-- the LRA of the first overdue record is the least overdue LRA of the set
 pub overdue_said : (nodes home : ℕ) (S : List Fact) (records : List Record) (now : ℕ) → AreOf home records → IsWhole S → IsNested S → AllByRecursion IsNumbered S → Stands nodes home S records
     → IsLeastOverdue S home now (first_overdue home (found_at home records) now records)
 overdue_said nodes home S records now order whole nest numbered stands = by (find p records) refl
@@ -149,7 +149,7 @@ overdue_said nodes home S records now order whole nest numbered stands = by (fin
           λ k own lesser. early k own (λ q i number. lesser_fails p records r q order.ascending e i (omega (arith, number, lesser))),
         )
 
--- the id of a number that a fact can have
+-- the id that is made of a home and a number that a fact can have
 pub id_made : {E : Type 0} (r : Result Id E) (home num : ℕ) → IfOk r (λ id. (id.home ≡ home) × (id.num ≡ num)) → MatchResult r (λ _. IsFactNumber num) (λ _. IsFactNumber num → ⊥) → IsFactNumber num → result_ok r ≡ Some (at home num)
 id_made (Ok id) home num value exact some =
     ap (λ (h : ℕ). Some (at h id.num)) value.0 ∙ ap (λ (n : ℕ). Some (at home n)) value.1

@@ -83,7 +83,7 @@ found_within num (q ∷ p) qs e = by (found_within num p qs) (nat_lt q.num num) 
         rw (next, own) (rest e)
     by rest false t e = refl
 
--- what has a number among all has it on the page where it fits
+-- a number that some record has is found on the page where it fits
 pub found_in : (num : ℕ) (ps : List (List Record)) (at : ℕ) (d : List Record) → FitsAt num at ps → with_number num (slice_get (records_in ps) (count_below num (records_in ps))) ≡ with_number num (slice_get (get_or ps at d) (count_below num (get_or ps at d)))
 found_in num [] at d fits = absurd fits
 found_in num (p ∷ ps) zero d (inl e) = found_within num p (records_in ps) e
@@ -91,7 +91,7 @@ found_in num (p ∷ ps) zero d (inr none) = ap (λ qs. found num (p ++ qs)) none
 found_in num ([] ∷ ps) (suc at) d fits = absurd fits
 found_in num ((q ∷ qs) ∷ ps) (suc at) d fits = found_through num (q ∷ qs) (records_in ps) fits.0 ∙ found_in num ps at d fits.1
 
--- nothing has a number that is greater than all
+-- a number that is greater than all is not found
 pub found_none : (num : ℕ) (rs : List Record) → AllByRecursion (λ (q : Record). q.num < num) rs → with_number num (slice_get rs (count_below num rs)) ≡ None
 found_none num rs h = sym (ap (found num) (nil_right rs)) ∙ found_through num rs [] h
 
@@ -118,7 +118,7 @@ others : (num : ℕ) (qs : List Record) → AllByRecursion (λ (q : Record). q.n
 others num [] h = tt
 others num (q ∷ qs) h = let less = h.0 in (grind (arith, nat_tests, less), others num qs h.1)
 
--- nothing is taken away where all have lesser numbers
+-- nothing is taken away if all records have lesser numbers
 pub none_lesser : (num : ℕ) (qs : List Record) → AllByRecursion (λ (q : Record). q.num < num) qs → filter (λ r. not (r.num == num)) qs ≡ qs
 none_lesser num qs h = keeps_all (λ r. not (r.num == num)) qs (others num qs h)
 
@@ -157,7 +157,7 @@ empties_kept ((r ∷ rs) ∷ ps) zero d (x ∷ q) e some new = refl
 empties_kept ([] ∷ ps) (suc at) d q e some new = ap (λ n. n + 1) (empties_kept ps at d q (omega (arith, e)) some new)
 empties_kept ((r ∷ rs) ∷ ps) (suc at) d q e some new = empties_kept ps at d q (omega (arith, e)) some new
 
--- where there were records, at most one page is emptied
+-- if there were records on the page, the change empties at most one page
 pub empties_rise : (ps : List (List Record)) (at : ℕ) (q : List Record) → (get_or ps at [] ≡ [] → ⊥) → empty_pages ps ≤ empty_pages (set ps at q)
 empties_rise [] at q some = omega arith
 empties_rise ([] ∷ ps) zero q some = absurd (some refl)
@@ -171,7 +171,7 @@ nothing_last [] e = tt
 nothing_last ([] ∷ ps) e = e
 nothing_last ((r ∷ rs) ∷ ps) e = absurd cc
 
--- the empty pages are still last where something stands on the page that was put
+-- the empty pages are still last, if something stands on the page that was put
 pub last_put : (num : ℕ) (ps : List (List Record)) (at : ℕ) (q : List Record) → FitsAt num at ps → AreEmptyLast ps → (q ≡ [] → ⊥) → AreEmptyLast (set ps at q)
 last_put num [] at q fits l new = absurd fits
 last_put num (p ∷ ps) zero [] fits l new = absurd (new refl)
@@ -186,18 +186,18 @@ fits_length num (p ∷ ps) zero fits = omega arith
 fits_length num ([] ∷ ps) (suc at) fits = absurd fits
 fits_length num ((r ∷ rs) ∷ ps) (suc at) fits = omega (arith, fits_length num ps at fits.1)
 
--- each page is in order
+-- the records of each page are in order
 pub ascends_on : (ps : List (List Record)) (at : ℕ) (d : List Record) → at < length ps → IsAscending (records_in ps) → IsAscending (get_or ps at d)
 ascends_on [] at d e h = absurd (omega (arith, e))
 ascends_on (p ∷ ps) zero d e h = ascends_left p (records_in ps) h
 ascends_on (p ∷ ps) (suc at) d e h = ascends_on ps at d (omega (arith, e)) (ascends_right p (records_in ps) h)
 
--- what is there stands on a page with records
+-- a number that is found stands on a page with records
 pub found_some : (num : ℕ) (rs : List Record) → is_some (with_number num (slice_get rs (count_below num rs))) ≡ true → rs ≡ [] → ⊥
 found_some num [] e none = absurd cc
 found_some num (r ∷ rs) e none = absurd cc
 
--- where a number is that stands there, there is a page
+-- if a number stands on the pages, the page where it belongs exists
 pub there_within : (num : ℕ) (ps : List (List Record)) (k : ℕ) → IsAscending (records_in ps) → AreEmptyLast ps → IsPageOf num k ps → is_some (with_number num (slice_get (records_in ps) (count_below num (records_in ps)))) ≡ true → k < length ps
 there_within num ps k h l at e = by (nat_lt k (length ps)) refl
   where
@@ -219,7 +219,7 @@ page_put r ps at p is fits = ap (λ q. records_in (set ps at (put_record r q))) 
 pub page_filter : (num : ℕ) (ps : List (List Record)) (at : ℕ) (p : List Record) → p ≡ get_or ps at p → IsAscending (records_in ps) → FitsAt num at ps → records_in (set ps at (filter (λ r. not (r.num == num)) p)) ≡ filter (λ r. not (r.num == num)) (records_in ps)
 page_filter num ps at p is h fits = ap (λ q. records_in (set ps at (filter (λ r. not (r.num == num)) q))) is ∙ sym (filter_in num ps at p h fits)
 
--- Where a page is empty it is moved behind all others
+-- A page that became empty is moved behind all others
 
 pub behind : (ps : List (List Record)) → records_in (ps ++ [] ∷ []) ≡ records_in ps
 behind [] = refl
@@ -235,7 +235,7 @@ more_behind [] = refl
 more_behind ([] ∷ ps) = ap (λ n. n + 1) (more_behind ps)
 more_behind ((r ∷ rs) ∷ ps) = more_behind ps
 
--- the pages without the one at a place, which stands empty behind them
+-- the pages without the one at a place, which now stands empty behind the others
 pub record IsMoved (ps : List (List Record)) (at : ℕ) (new : List (List Record)) : Type 0 where
   pub same : records_in new ≡ records_in (set ps at [])
   pub last : AreEmptyLast new
@@ -269,7 +269,7 @@ moved_is num ((r ∷ rs) ∷ ps) (suc at) l fits =
 pub page_at : (ps : List (List Record)) (at : ℕ) (p : List Record) → at < length ps → p ≡ get_or ps at p → get_or ps at [] ≡ p
 page_at ps at p e is = get_or_default ps at [] p e ∙ sym is
 
--- p: the page at a place, on which a number stands
+-- what is known of p, the page at a place on which a number stands
 pub record IsFound (num at : ℕ) (ps : List (List Record)) (p : List Record) : Type 0 where
   pub within : at < length ps
   pub is : p ≡ get_or ps at p
@@ -282,7 +282,7 @@ found_on num at ps p h l e there is =
     let fits = page_fits num ps at h l within e in
     record { within = within; is = is; fits = fits; there = ap is_some (sym (page_found num ps at p is fits)) ∙ there }
 
--- q: the page at a place without a number
+-- what is known of q, the page at a place without a number
 pub record IsCut (num at : ℕ) (ps : List (List Record)) (p q : List Record) : Type 0 where
   pub within : at < length ps
   pub is : p ≡ get_or ps at p
@@ -297,7 +297,7 @@ pub record IsWithout (num : ℕ) (old new : List (List Record)) : Type 0 where
   pub last : AreEmptyLast new
   pub room : room_in old ≤ room_in new
 
--- where records are left there, the page stays
+-- if records are left on the page, it stays where it is
 pub cut_stays : (num at : ℕ) (ps : List (List Record)) (p q : List Record) → IsCut num at ps p q → (q ≡ [] → ⊥) → IsWithout num ps (set ps at q)
 cut_stays num at ps p q h some =
     let one = some_length q some in
@@ -309,7 +309,7 @@ cut_stays num at ps p q h some =
       room = room_rises ps (set ps at q) rise (omega (arith, rise, fewer_weigh 16 ps at q one few));
     }
 
--- else it is moved behind all others
+-- otherwise it is moved behind all others
 pub cut_moves : (num at : ℕ) (ps : List (List Record)) (p q : List Record) (new : List (List Record)) → IsCut num at ps p q → q ≡ [] → new ≡ remove (set ps at q) at ++ [] ∷ [] → IsWithout num ps new
 cut_moves num at ps p q new h none is =
     let whole : new ≡ remove (set ps at []) at ++ [] ∷ [] = is ∙ ap (λ (xs : List Record). remove (set ps at xs) at ++ [] ∷ []) none in
@@ -320,14 +320,14 @@ cut_moves num at ps p q new h none is =
       room = subst (λ (ns : List (List Record)). room_in ps ≤ room_in ns) (sym whole) (room_rises ps (remove (set ps at []) at ++ [] ∷ []) now.spare (now.weight 16));
     }
 
--- a page with records reaches the numbers that it is the page of
+-- a page with records has a record that reaches the number, if it is the page of that number
 pub page_reached : (num : ℕ) (ps : List (List Record)) (at : ℕ) → IsPageOf num at ps → (get_or ps at [] ≡ [] → ⊥) → Reaches num (get_or ps at [])
 page_reached num [] at e some = absurd (some refl)
 page_reached num ([] ∷ ps) zero e some = absurd (some refl)
 page_reached num ((r ∷ rs) ∷ ps) zero e some = reaches num r rs e
 page_reached num (p ∷ ps) (suc at) e some = page_reached num ps at e.1 some
 
--- what lies before the page of a number are pages with records
+-- all pages before the page of a number have records
 pub page_some : (num : ℕ) (ps : List (List Record)) (k : ℕ) → IsPageOf num (suc k) ps → get_or ps k [] ≡ [] → ⊥
 page_some num [] k at e = at
 page_some num ([] ∷ ps) zero at e = let none = at.0 in cc

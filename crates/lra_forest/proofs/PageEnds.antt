@@ -1,4 +1,4 @@
--- where one more record goes that comes behind all others
+-- the place of one more record that comes behind all others
 use Rattle.std.proofs.Common.{◌≡◌, ◌<◌, ◌≤◌, ◌++◌, ℕ, zero, suc, List, [], ◌∷◌, refl, sym, ◌∙◌, ap, arith, drop, get_or, length, set}
 use Rattle.std.proofs.lemmas.List.{append_assoc}
 use Rattle.lra_forest.specs.declared.record.Record.{Record}
@@ -13,7 +13,7 @@ seat_first [] none = tt
 seat_first ([] ∷ ps) none = (omega arith, none)
 seat_first ((r ∷ rs) ∷ ps) none = absurd cc
 
--- it is the last one with records where that has room
+-- the page is the last one with records, if that has room
 pub seat_on : (ps : List (List Record)) (k : ℕ) → AreEmptyLast ps → k < length ps → (get_or ps k [] ≡ [] → ⊥) → length (get_or ps k []) < 32 → records_in (drop (suc k) ps) ≡ [] → IsLastSeat k ps
 seat_on [] k last less some room none = absurd (omega (arith, less))
 seat_on ([] ∷ ps) zero last less some room none = absurd (some refl)
@@ -21,7 +21,7 @@ seat_on ((r ∷ rs) ∷ ps) zero last less some room none = (room, none)
 seat_on ([] ∷ ps) (suc k) last less some room none = absurd (some (none_on ps k [] (omega (arith, less)) last))
 seat_on ((r ∷ rs) ∷ ps) (suc k) last less some room none = seat_on ps k last (omega (arith, less)) some room none
 
--- else the one behind it
+-- otherwise it is the one behind it
 pub seat_behind : (ps : List (List Record)) (k : ℕ) → AreEmptyLast ps → k < length ps → (get_or ps k [] ≡ [] → ⊥) → records_in (drop (suc k) ps) ≡ [] → IsLastSeat (suc k) ps
 seat_behind [] k last less some none = absurd (omega (arith, less))
 seat_behind ([] ∷ ps) zero last less some none = absurd (some refl)
@@ -29,14 +29,14 @@ seat_behind ((r ∷ rs) ∷ ps) zero last less some none = seat_first ps none
 seat_behind ([] ∷ ps) (suc k) last less some none = absurd (some (none_on ps k [] (omega (arith, less)) last))
 seat_behind ((r ∷ rs) ∷ ps) (suc k) last less some none = seat_behind ps k last (omega (arith, less)) some none
 
--- behind an empty page there is one record less to look for
+-- if the page at k is empty and no records follow, none stand from k on
 pub none_behind : (ps : List (List Record)) (k : ℕ) → get_or ps k [] ≡ [] → records_in (drop (suc k) ps) ≡ [] → records_in (drop k ps) ≡ []
 none_behind [] zero empty none = refl
 none_behind [] (suc k) empty none = refl
 none_behind (p ∷ ps) zero empty none = ap (λ xs. xs ++ records_in ps) empty ∙ none
 none_behind (p ∷ ps) (suc k) empty none = none_behind ps k empty none
 
--- where it isn't there, it is the next one
+-- if there is no such page, the next one is added
 pub seat_added : (ps : List (List Record)) (at : ℕ) → IsLastSeat at ps → length ps ≤ at → IsLastSeat at (ps ++ [] ∷ [])
 seat_added [] zero seat beyond = (omega arith, refl)
 seat_added [] (suc at) seat beyond = absurd seat
@@ -51,7 +51,7 @@ seat_within (p ∷ ps) zero seat = omega arith
 seat_within ([] ∷ ps) (suc at) seat = absurd seat
 seat_within ((r ∷ rs) ∷ ps) (suc at) seat = omega (arith, seat_within ps at seat)
 
--- What comes of one record more there
+-- What follows after one more record is put there
 
 pub seat_room : (ps : List (List Record)) (at : ℕ) (d : List Record) → IsLastSeat at ps → at < length ps → length (get_or ps at d) < 32
 seat_room [] at d seat less = absurd (omega (arith, less))

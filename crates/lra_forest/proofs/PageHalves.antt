@@ -1,4 +1,4 @@
--- a full page whose upper half is moved to an empty one behind it
+-- a full page, whose upper half is moved to an empty one behind it
 use Rattle.std.proofs.Common.{◌≡◌, inl, inr, ◌≤◌, ◌<◌, ◌+◌, ◌++◌, ℕ, zero, suc, List, [], ◌∷◌, refl, sym, ◌∙◌, ap, subst, true, false, arith, add-one, length, length-append, get_or, set}
 use Rattle.std.specs.List.{AllByRecursion, insert}
 use Rattle.std.proofs.lemmas.List.{append_assoc}
@@ -9,7 +9,7 @@ use Rattle.lra_forest.proofs.PageOrder.{all_below, ascends_left, reaches}
 use Rattle.lra_forest.proofs.PageEdits.{behind, empties_near, empties_rise, more_behind}
 use Rattle.lra_forest.proofs.PageWeights.{before, behind_weighs, one_weighs, room_falls, weighs_as_much, weighs_less}
 
--- the pages with two in place of one
+-- the pages with two halves in place of one page
 abbrev pub with_halves : List (List Record) → ℕ → List Record → List Record → List (List Record)
 with_halves [] at lo up = []
 with_halves (p ∷ ps) zero lo up = lo ∷ up ∷ ps
@@ -22,7 +22,7 @@ halves_are (p ∷ ps) (suc at) lo up e =
     let next : insert (p ∷ set ps at lo) (suc at + 1) up ≡ p ∷ insert (set ps at lo) (at + 1) up = rw (add-one (suc at), add-one at) refl in
     next ∙ ap (λ qs. p ∷ qs) (halves_are ps at lo up (omega (arith, e)))
 
--- an empty page that is last of all
+-- a page that is emptied as the last of all
 pub emptied_last : (ps : List (List Record)) (p : List Record) → AreEmptyLast (ps ++ p ∷ []) → 1 ≤ empty_pages (ps ++ p ∷ []) → p ≡ []
 emptied_last [] [] l e = refl
 emptied_last [] (r ∷ rs) l e = absurd (omega (arith, e))
@@ -82,7 +82,7 @@ upper_is [] at lo up d e = absurd (omega (arith, e))
 upper_is (p ∷ ps) zero lo up d e = refl
 upper_is (p ∷ ps) (suc at) lo up d e = upper_is ps at lo up d (omega (arith, e))
 
--- one empty page fewer
+-- halving leaves one empty page fewer
 halves_spare : (ps : List (List Record)) (at : ℕ) (x y : Record) (lo up : List Record) → at < length ps → (get_or ps at [] ≡ [] → ⊥) → empty_pages (with_halves ps at (x ∷ lo) (y ∷ up)) + 1 ≡ empty_pages (ps ++ [] ∷ [])
 halves_spare [] at x y lo up e some = absurd (omega (arith, e))
 halves_spare ([] ∷ ps) zero x y lo up e some = absurd (some refl)
@@ -90,7 +90,7 @@ halves_spare ((r ∷ rs) ∷ ps) zero x y lo up e some = sym (more_behind ps)
 halves_spare ([] ∷ ps) (suc at) x y lo up e some = ap (λ n. n + 1) (halves_spare ps at x y lo up (omega (arith, e)) some)
 halves_spare ((r ∷ rs) ∷ ps) (suc at) x y lo up e some = halves_spare ps at x y lo up (omega (arith, e)) some
 
--- with one record more on the lower half, and on the upper, there are at least 15 fewer to weigh
+-- with one record more on the lower half, or on the upper, the weight falls by at least 15
 lower_weighs : (k : ℕ) (ps : List (List Record)) (at : ℕ) (y : Record) (lo up q : List Record) → at < length ps → length (get_or ps at []) ≡ 32 → length (y ∷ up) ≡ 16 → 1 ≤ length q → length q ≤ 17 → weight_behind k (set (with_halves ps at lo (y ∷ up)) at q) + 15 ≤ weight_behind k ps
 lower_weighs k [] at y lo up q e full upper some few = absurd (omega (arith, e))
 lower_weighs k (p ∷ ps) zero y lo up [] e full upper some few = absurd (omega (arith, some))
@@ -128,11 +128,11 @@ still_some : (xs ys zs : List Record) → xs ++ ys ≡ zs → (xs ≡ [] → ⊥
 still_some [] ys zs e some none = some refl
 still_some (x ∷ xs) ys zs e some none = absurd cc
 
--- 32 records stood there
+-- the page at a place that is halved had 32 records
 were_full : (num at : ℕ) (ps : List (List Record)) (lo up : List Record) → IsHalved num at ps lo up → length (get_or ps at []) ≡ 32
 were_full num at ps lo up h = omega (arith, sym (ap length h.both), length-append lo up, h.lower, h.upper)
 
--- one empty page fewer, and 15 less to weigh
+-- there is one empty page fewer, and the weight falls by 15
 half_room : (old halves : List (List Record)) (at : ℕ) (q : List Record) → (get_or halves at [] ≡ [] → ⊥) → empty_pages halves + 1 ≡ empty_pages old → weight_in (set halves at q) + 15 ≤ weight_in old → room_in old ≤ room_in (set halves at q) + 1
 half_room old halves at q some one weight =
     let rise = empties_rise halves at q some in
@@ -177,7 +177,7 @@ seat_lower num at old ps lo up is h e = subst (λ os. IsSeat num at os (insert (
 pub seat_upper : (num at : ℕ) (old ps : List (List Record)) (lo up : List Record) → old ≡ ps ++ [] ∷ [] → IsHalved num at ps lo up → Reaches num (get_or ps at []) → lies_below num lo ≡ true → IsSeat num (at + 1) old (insert (set ps at lo) (at + 1) up)
 seat_upper num at old ps lo up is h reached e = subst (λ os. IsSeat num (at + 1) os (insert (set ps at lo) (at + 1) up)) (sym is) (subst (IsSeat num (at + 1) (ps ++ [] ∷ [])) (sym (halves_are ps at lo up h.within)) (subst (λ k. IsSeat num k (ps ++ [] ∷ []) (with_halves ps at lo up)) (sym (add-one at)) (upper_seat num at ps lo up h reached e)))
 
--- where a full page stands among pages, it stands before an empty one behind them
+-- if a full page is one of the pages, it stands before an empty one behind them
 pub full_within : (ps : List (List Record)) (at : ℕ) → length (get_or (ps ++ [] ∷ []) at []) ≡ 32 → at < length ps
 full_within [] zero e = absurd (omega (arith, e))
 full_within [] (suc at) e = absurd (omega (arith, e))
@@ -202,7 +202,7 @@ seat_here num at ps l fits room full = record {
 
 -- What is known where a page was taken off the back
 
--- the same records, and one empty page fewer
+-- the same records stand there, and one empty page fewer
 pub record IsDropped (old ps : List (List Record)) : Type 0 where
   pub same : records_in ps ≡ records_in old
   pub last : AreEmptyLast ps

@@ -1,4 +1,4 @@
--- where numbers stand on pages
+-- the places of numbers on pages
 use Rattle.std.proofs.Common.{◌≡◌, inl, inr, ◌≤◌, ◌<◌, ◌-◌, ◌++◌, ℕ, zero, suc, List, [], ◌∷◌, refl, sym, ◌∙◌, ap, true, false, arith, length, get_or, nat_lt, slice_get}
 use Rattle.std.specs.List.{AllByRecursion}
 use Rattle.std.specs.List.Sorted.{IsPartitionedBy, IsPartitionPoint}
@@ -31,7 +31,7 @@ ascends_right (p ∷ ps) qs h = ascends_right ps qs h.1
 last_of : (r q : Record) (rs : List Record) → slice_get (r ∷ q ∷ rs) (length (r ∷ q ∷ rs) - 1) ≡ slice_get (q ∷ rs) (length (q ∷ rs) - 1)
 last_of r q rs = let next : length (r ∷ q ∷ rs) - 1 ≡ suc (length (q ∷ rs) - 1) = omega arith in ap (λ i. slice_get (r ∷ q ∷ rs) i) next
 
--- where records lie below a number, all of them have lesser ones
+-- if a list of records lies below a number, all of its records have lesser numbers
 pub all_below : (num : ℕ) (rs : List Record) → IsAscending rs → lies_below num rs ≡ true → AllByRecursion (λ (r : Record). r.num < num) rs
 all_below num [] h e = tt
 all_below num (r ∷ []) h e = (grind (arith, nat_tests, e), tt)
@@ -43,7 +43,7 @@ pub below_of_all : (num : ℕ) (r : Record) (rs : List Record) → AllByRecursio
 below_of_all num r [] h = let less = h.0 in grind (arith, nat_tests, less)
 below_of_all num r (q ∷ rs) h = ap (λ o. option_map_or (λ (x : Record). nat_lt x.num num) o false) (last_of r q rs) ∙ below_of_all num q rs h.1
 
--- else one of them reaches it
+-- otherwise one of them reaches the number
 pub reaches : (num : ℕ) (r : Record) (rs : List Record) → lies_below num (r ∷ rs) ≡ false → Reaches num (r ∷ rs)
 reaches num r [] e = inl (grind (arith, nat_tests, e))
 reaches num r (q ∷ rs) e = inr (reaches num q rs (sym (ap (λ o. option_map_or (λ (x : Record). nat_lt x.num num) o false) (last_of r q rs)) ∙ e))
@@ -61,7 +61,7 @@ none_on ([] ∷ ps) zero d e h = refl
 none_on ((r ∷ rs) ∷ ps) j d e h = absurd cc
 none_on ([] ∷ ps) (suc j) d e h = none_on ps j d (omega (arith, e)) h
 
--- all that comes before a page has lesser numbers than any record there
+-- all records that come before a page have lesser numbers than any record on it
 before : (num : ℕ) (rs qs xs : List Record) → IsAscending (rs ++ qs) → ((P : Record → Type 0) → AllByRecursion P qs → AllByRecursion P xs) → lies_below num xs ≡ true → AllByRecursion (λ (r : Record). r.num < num) rs
 before num [] qs xs h on e = tt
 before num (r ∷ rs) qs [] h on e = absurd cc
@@ -84,7 +84,7 @@ parted num (p ∷ ps) h l (suc i) zero d le less e = absurd (omega (arith, le))
 parted num ([] ∷ ps) h l (suc i) (suc j) d le less e = absurd (let none = none_on ps j d (omega (arith, less)) l in cc)
 parted num ((r ∷ rs) ∷ ps) h l (suc i) (suc j) d le less e = parted num ps (ascends_right (r ∷ rs) (records_in ps) h) l i j d (omega (arith, le)) (omega (arith, less)) e
 
--- so the point where they part is the page of the number
+-- so the partition point of the pages is the page of the number
 pub page_is : (num : ℕ) (ps : List (List Record)) (k : ℕ) → k ≤ length ps → IsPartitionPoint (λ p. lies_below num p ≡ true) (λ p. lies_below num p ≡ false) ps k → IsPageOf num k ps
 page_is num [] zero e h = tt
 page_is num [] (suc k) e h = absurd (omega (arith, e))
@@ -97,7 +97,7 @@ page_is num (p ∷ ps) (suc k) e h = (
   ),
 )
 
--- where it is one of the pages, a record with the number fits there
+-- if the page of the number is one of the pages, a record with the number fits there
 pub page_fits : (num : ℕ) (ps : List (List Record)) (k : ℕ) → IsAscending (records_in ps) → AreEmptyLast ps → k < length ps → IsPageOf num k ps → FitsAt num k ps
 page_fits num [] k h l e at = absurd (omega (arith, e))
 page_fits num ([] ∷ ps) zero h l e at = inr l
@@ -108,7 +108,7 @@ page_fits num ((r ∷ rs) ∷ ps) (suc k) h l e at = (
   page_fits num ps k (ascends_right (r ∷ rs) (records_in ps) h) l (omega (arith, e)) at.1,
 )
 
--- else all have lesser numbers
+-- otherwise all records have lesser numbers
 pub all_lesser : (num : ℕ) (ps : List (List Record)) (k : ℕ) → IsAscending (records_in ps) → AreEmptyLast ps → length ps ≤ k → IsPageOf num k ps → AllByRecursion (λ (r : Record). r.num < num) (records_in ps)
 all_lesser num [] k h l e at = tt
 all_lesser num (p ∷ ps) zero h l e at = absurd (omega (arith, e))
@@ -120,7 +120,7 @@ all_lesser num ((r ∷ rs) ∷ ps) (suc k) h l e at =
     both [] h rest = rest
     both (x ∷ xs) h rest = (h.0, both xs h.1 rest)
 
--- a page of a number is one of them where there is an empty one
+-- a page of a number is one of the pages, if there is an empty page
 pub page_within : (num : ℕ) (ps : List (List Record)) (k : ℕ) → 1 ≤ empty_pages ps → IsPageOf num k ps → k < length ps
 page_within num [] k e at = absurd (omega (arith, e))
 page_within num (p ∷ ps) zero e at = omega arith

@@ -1,4 +1,4 @@
--- what pages weigh, and how their room changes where one page is changed
+-- the weight of pages, and how their room changes if one page is changed
 use Rattle.std.proofs.Common.{◌≡◌, ◌≤◌, ◌<◌, ◌+◌, ◌-◌, ◌*◌, ◌++◌, ℕ, zero, suc, List, [], ◌∷◌, refl, ap, arith, length, get_or, set}
 use Rattle.lra_forest.specs.declared.record.Record.{Record}
 use Rattle.lra_forest.specs.Pages.{AreEmptyLast, FitsAt, empty_pages, records_in, room_in, weight_behind, weight_in}
@@ -10,25 +10,25 @@ weighs_less j k [] e = e
 weighs_less j k ([] ∷ ps) e = weighs_less j k ps e
 weighs_less j k ((r ∷ rs) ∷ ps) e = omega (arith, e)
 
--- no more is added to the weight than to the page
+-- the weight rises by no more than the page does
 weighs_near : (j k : ℕ) (ps : List (List Record)) → j ≤ k → weight_behind k ps + j ≤ weight_behind j ps + k
 weighs_near j k [] e = omega arith
 weighs_near j k ([] ∷ ps) e = weighs_near j k ps e
 weighs_near j k ((r ∷ rs) ∷ ps) e = omega (arith, e)
 
--- and no less, beyond 16
+-- and by no less, beyond 16 records
 pub weighs_as_much : (j k : ℕ) (ps : List (List Record)) → 16 ≤ j → j ≤ k → weight_behind j ps + k ≤ weight_behind k ps + j
 weighs_as_much j k [] low e = omega arith
 weighs_as_much j k ([] ∷ ps) low e = weighs_as_much j k ps low e
 weighs_as_much j k ((r ∷ rs) ∷ ps) low e = omega (arith, low, e)
 
--- where no records follow, the page is the last
+-- if no records follow, the page is the last, and the weight is its count
 nothing_weighs : (k : ℕ) (ps : List (List Record)) → records_in ps ≡ [] → weight_behind k ps ≡ k
 nothing_weighs k [] e = refl
 nothing_weighs k ([] ∷ ps) e = nothing_weighs k ps e
 nothing_weighs k ((r ∷ rs) ∷ ps) e = absurd cc
 
--- a page that is taken away leaves at most 16 more on the one before
+-- a page that is taken away leaves at most 16 more of weight on the one before
 gone_weighs : (j k : ℕ) (ps : List (List Record)) → weight_behind j ps ≤ (j - 16) + weight_behind k ps + 16
 gone_weighs j k [] = omega arith
 gone_weighs j k ([] ∷ ps) = gone_weighs j k ps
@@ -59,7 +59,7 @@ fewer_weigh k ((r ∷ rs) ∷ ps) zero (x ∷ q) some e = omega (arith, weighs_l
 fewer_weigh k ([] ∷ ps) (suc at) q some e = fewer_weigh k ps at q some e
 fewer_weigh k ((r ∷ rs) ∷ ps) (suc at) q some e = omega (arith, fewer_weigh (length (r ∷ rs)) ps at q some e)
 
--- how many records the page before a place has, where one with so many comes before all
+-- how many records the page before a place has, if one with `count` records comes before all
 abbrev pub before : ℕ → ℕ → List (List Record) → ℕ
 before count zero ps = count
 before count (suc at) [] = count
@@ -70,7 +70,7 @@ before_is count k [] e = absurd (omega (arith, e))
 before_is count zero (p ∷ ps) e = refl
 before_is count (suc k) (p ∷ ps) e = before_is (length p) k ps (omega (arith, e))
 
--- with one more record on a page, which is no empty one behind a page with fewer than 16
+-- with one more record on a page, unless that is an empty page behind one with fewer than 16
 pub one_weighs : (num k : ℕ) (ps : List (List Record)) (at : ℕ) (q : List Record) → AreEmptyLast ps → FitsAt num at ps → (get_or ps at [] ≡ [] → 16 ≤ before k at ps) → 1 ≤ length q → length q ≤ length (get_or ps at []) + 1 →
     16 * empty_pages ps + weight_behind k (set ps at q) ≤ 16 * empty_pages (set ps at q) + weight_behind k ps + 1
 one_weighs num k [] at q l fits full some e = absurd fits
@@ -81,7 +81,7 @@ one_weighs num k ((r ∷ rs) ∷ ps) zero (x ∷ q) l fits full some e =
 one_weighs num k ([] ∷ ps) (suc at) q l fits full some e = absurd fits
 one_weighs num k ((r ∷ rs) ∷ ps) (suc at) q l fits full some e = omega (arith, one_weighs num (length (r ∷ rs)) ps at q l fits.1 full some e)
 
--- without a page, which then stands empty behind all
+-- the weight without a page that now stands empty behind all
 pub gone_behind : (k : ℕ) (p : List Record) (ps : List (List Record)) → 16 * empty_pages (p ∷ ps) + weight_behind k (ps ++ [] ∷ []) ≤ 16 * (empty_pages ps + 1) + weight_behind k (p ∷ ps)
 gone_behind k [] ps = omega (arith, behind_weighs k ps)
 gone_behind k (r ∷ rs) ps = omega (arith, behind_weighs k ps, gone_weighs k (length (r ∷ rs)) ps)

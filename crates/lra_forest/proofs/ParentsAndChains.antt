@@ -10,7 +10,7 @@ use Rattle.lra_facts.proofs.Chains.{chain_is}
 pub begins_at : (l : Id) (f : Fact) → begins l f ≡ true → (f.origin ≡ l.home) × (f.num ≡ l.num)
 begins_at l f e = grind (arith, e)
 
--- a parent is of its child's home
+-- a parent has the same home as its child
 pub parent_home : (S : List Fact) (l p : Id) → AllByRecursion NamesEarlier S → parent_of S l ≡ Some p → p.home ≡ l.home
 parent_home [] l p h e = absurd cc
 parent_home (f ∷ S) l p h e = home_at f l p (parent_of S l) h.0 (parent_home S l p h.1) (begins l f) refl e
@@ -20,7 +20,7 @@ parent_home (f ∷ S) l p h e = home_at f l p (parent_of S l) h.0 (parent_home S
         let named : (p.home ≡ f.origin) × (p.num < f.num) = rw e at h in named.0 ∙ (begins_at l f at).0
     home_at f l p above h rest false at e = rest e
 
--- the chain of an LRA is itself and the chain of its parent
+-- the chain of an LRA is the LRA itself and the chain of its parent
 pub chain_up : (S : List Fact) → AllByRecursion NamesEarlier S → (l p : Id) → parent_of S l ≡ Some p → chain S l ≡ l ∷ chain S p
 chain_up S nested l p e = chain_is S nested l ∙ ap (λ above. l ∷ option_map_or (chain S) above []) e
 

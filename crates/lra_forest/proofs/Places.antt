@@ -1,4 +1,4 @@
--- where numbers stand in records that are in order
+-- the places of numbers in records that are in order
 use Rattle.std.proofs.Common.{◌≡◌, ◌≤◌, ◌<◌, ◌+◌, ℕ, zero, suc, List, [], ◌∷◌, refl, sym, ◌∙◌, Bool, true, false, cond, arith, Some, None, find, length, get_or, nat_lt, ◌==◌, add-one, slice_get}
 use Rattle.std.specs.List.{AllByRecursion}
 use Rattle.std.specs.List.Sorted.{IsNonDecreasingBy, IsPartitionPoint}
@@ -13,7 +13,7 @@ lesser_num n q rs zero d h e = h.0
 lesser_num n q [] (suc i) d h e = absurd (omega (arith, e))
 lesser_num n q (r ∷ rs) (suc i) d h e = lesser_num n r rs i d h.1 (omega (arith, e))
 
--- their numbers rise
+-- the numbers of records in order rise
 pub rises : (rs : List Record) → IsAscending rs → IsNonDecreasingBy (λ (r : Record). r.num) rs
 rises [] h i j d le less = absurd (omega (arith, less))
 rises (r ∷ rs) h zero zero d le less = omega arith
@@ -22,11 +22,11 @@ rises (r ∷ q ∷ rs) h zero (suc j) d le less = omega (arith, lesser_num r.num
 rises (r ∷ rs) h (suc i) zero d le less = absurd (omega (arith, le))
 rises (r ∷ rs) h (suc i) (suc j) d le less = rises rs h.1 i j d (omega (arith, le)) (omega (arith, less))
 
--- before it all have lesser numbers, and from it on none has
+-- all records before the place have lesser numbers, and none from it on has
 abbrev pub Parts : ℕ → List Record → ℕ → Type 0
 Parts num rs k = IsPartitionPoint (λ (r : Record). nat_lt r.num num ≡ true) (λ (r : Record). nat_lt r.num num ≡ false) rs k
 
--- so it is the place of the number
+-- so the partition point is the place of the number
 pub place_is : (num : ℕ) (rs : List Record) (k : ℕ) → k ≤ length rs → Parts num rs k → k ≡ count_below num rs
 place_is num [] k e p = omega (arith, e)
 place_is num (r ∷ rs) k e p = by k e p (place_is num rs) (nat_lt r.num num) refl
@@ -52,7 +52,7 @@ place_length num (r ∷ rs) = by (nat_lt r.num num) (place_length num rs)
     by true rest = omega (arith, rest)
     by false rest = omega arith
 
--- none of them is of l where each has another number
+-- no record is of l if each has a greater number than l
 pub none_of : (l : Id) (rs : List Record) → AllByRecursion (λ (x : Record). l.num < x.num) rs → find (is_of l) rs ≡ None
 none_of l [] h = refl
 none_of l (r ∷ rs) h = by (is_of l r) refl (none_of l rs h.1)
@@ -65,7 +65,7 @@ pub beyond_all : (n m : ℕ) (rs : List Record) → n ≤ m → AllByRecursion (
 beyond_all n m [] e h = tt
 beyond_all n m (r ∷ rs) e h = (omega (arith, h.0, e), beyond_all n m rs e h.1)
 
--- what is found is what stands at the place of the number, if it has the number
+-- the lookup finds what stands at the place of the number, if that has the number
 pub found_place : (l : Id) (rs : List Record) → AreOf l.home rs → find (is_of l) rs ≡ with_number l.num (slice_get rs (count_below l.num rs))
 found_place l [] h = refl
 found_place l (r ∷ rs) h =
@@ -88,7 +88,7 @@ found_place l (r ∷ rs) h =
             let none : is_of l r ≡ false = grind (arith, nat_tests, less) in
             rw (none, other) (none_of l rs (beyond_all l.num r.num rs (omega arith) h.ascending.0))
 
--- nothing is found of another home
+-- nothing is found of an LRA of another home
 pub other_home : (l : Id) (home : ℕ) (rs : List Record) → AllByRecursion (λ (x : Record). x.home ≡ home) rs → (l.home ≡ home → ⊥) → find (is_of l) rs ≡ None
 other_home l home [] h e = refl
 other_home l home (r ∷ rs) h e = by (other_home l home rs h.1 e) (r.home == l.home) refl

@@ -1,4 +1,4 @@
--- records with one more in its place
+-- records after one more was put in its place
 use Rattle.std.proofs.Common.{◌≡◌, ◌≤◌, ◌<◌, ◌+◌, ◌==◌, ◌∷◌, ◌++◌, ℕ, zero, suc, List, [], refl, sym, ap, ◌∙◌, Bool, true, false, cond, arith, Some, None, find, length, nat_lt, add-one, slice_get, is_some, set}
 use Rattle.std.specs.List.{AllByRecursion, insert}
 use Rattle.std.proofs.lemmas.Bool.Decides.{nat_tests}
@@ -8,7 +8,7 @@ use Rattle.lra_forest.specs.Forests.{IsAscending, AreOf, is_of}
 use Rattle.lra_forest.specs.Places.{count_below, put_record, with_number}
 use Rattle.lra_forest.proofs.Places.{beyond_all}
 
--- where its number stands it replaces the record there
+-- if its number stands there, the record replaces the record there
 pub put_set : (r : Record) (qs : List Record) → is_some (with_number r.num (slice_get qs (count_below r.num qs))) ≡ true → put_record r qs ≡ set qs (count_below r.num qs) r
 put_set r [] e = absurd cc
 put_set r (q ∷ qs) e = by (put_set r qs) (nat_lt q.num r.num) e
@@ -24,7 +24,7 @@ put_set r (q ∷ qs) e = by (put_set r qs) (nat_lt q.num r.num) e
         here true e = refl
         here false e = absurd cc
 
--- elsewhere it is inserted
+-- otherwise it is inserted
 pub put_insert : (r : Record) (qs : List Record) → is_some (with_number r.num (slice_get qs (count_below r.num qs))) ≡ false → put_record r qs ≡ insert qs (count_below r.num qs) r
 put_insert r [] e = refl
 put_insert r (q ∷ qs) e = by (put_insert r qs) (nat_lt q.num r.num) e
@@ -40,7 +40,7 @@ put_insert r (q ∷ qs) e = by (put_insert r qs) (nat_lt q.num r.num) e
         here true e = absurd cc
         here false e = refl
 
--- a place that has a record is one of those that there are
+-- a place with a record is within the list
 pub some_within : (num : ℕ) (qs : List Record) (i : ℕ) → is_some (with_number num (slice_get qs i)) ≡ true → i < length qs
 some_within num [] i e = absurd cc
 some_within num (q ∷ qs) zero e = omega arith
@@ -67,7 +67,7 @@ put_ascends r (q ∷ qs) h = by (nat_lt q.num r.num) refl (put_ascends r qs h.1)
         here true s = let same : r.num ≤ q.num = grind (arith, nat_tests, s) in (beyond_all r.num q.num qs same h.0, h.1)
         here false s = let less : r.num < q.num = grind (arith, nat_tests, s, t) in ((less, beyond_all r.num q.num qs (omega (arith, less)) h.0), h)
 
--- they are still in order
+-- after one record is put, the records are still in order
 pub put_are_of : (home : ℕ) (r : Record) (qs : List Record) → r.home ≡ home → AreOf home qs → AreOf home (put_record r qs)
 put_are_of home r qs at h = record { homes = all_put (λ x. x.home ≡ home) r qs at h.homes; ascending = put_ascends r qs h.ascending }
 
@@ -79,7 +79,7 @@ put_behind r (q ∷ rs) all = let less : nat_lt q.num r.num ≡ true = less_than
     less_than : (a b : ℕ) → a < b → nat_lt a b ≡ true
     less_than a b e = grind (arith, nat_tests)
 
--- it is found, and the others as before
+-- the put record is found, and the others are found as before
 pub put_find : (home : ℕ) (r : Record) (qs : List Record) (l : Id) → r.home ≡ home → AreOf home qs → find (is_of l) (put_record r qs) ≡ cond (is_of l r) (Some r) (find (is_of l) qs)
 put_find home r [] l at h = refl
 put_find home r (q ∷ qs) l at h =

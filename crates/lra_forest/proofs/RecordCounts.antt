@@ -1,4 +1,4 @@
--- how many records there are
+-- the number of records
 use Rattle.std.proofs.Common.{◌≡◌, ◌&&◌, ◌||◌, ◌==◌, ◌∷◌, ◌++◌, ℕ, suc, List, [], refl, sym, ap, ◌∙◌, Bool, true, false, cond, arith, Some, None, find, filter, length, nat_lt}
 use Rattle.std.specs.List.{list_any, AllByRecursion}
 use Rattle.std.proofs.lemmas.Bool.Decides.{nat_tests}
@@ -36,7 +36,7 @@ or_turned false false = refl
 any_first : {X : Type 0} (t : X → Bool) (xs : List X) (x : X) → list_any t (xs ++ x ∷ []) ≡ (t x || list_any t xs)
 any_first t xs x = any_last t xs x ∙ or_turned (list_any t xs) (t x)
 
--- a begin that is not of the home, or of an LRA that is not held, changes nothing
+-- a begin of another home, or one of an LRA that is not held, changes nothing
 no_more : (held b d : Bool) (r : Record) → (held ≡ true → b ≡ true → ⊥) → cond (held && d) (Some r) None ≡ cond (held && (b || d)) (Some r) None
 no_more false b d r h = refl
 no_more true false d r h = refl
@@ -61,7 +61,7 @@ built_stands nodes home S (f ∷ done) l at = by (begins_held S home f) refl (bu
         ∙ ap (λ b. cond (is_held S l && b) (Some (record_of nodes S l)) None) (any_first (begins l) done f)
     by false t rest = rest l at ∙ no_more (is_held S l) (begins l f) (is_begun done l) (record_of nodes S l) (skipped t)
 
--- a record of an LRA that has none yet is one more
+-- putting a record of an LRA that has no record yet adds one record
 one_more : (r : Record) (qs : List Record) → AllByRecursion (λ q. q.home ≡ r.home) qs → find (is_of (id_of r)) qs ≡ None → length (put_record r qs) ≡ suc (length qs)
 one_more r [] h e = refl
 one_more r (q ∷ qs) h e = by (one_more r qs h.1) (nat_lt q.num r.num) (is_of (id_of r) q) refl e
@@ -78,7 +78,7 @@ one_more r (q ∷ qs) h e = by (one_more r qs h.1) (nat_lt q.num r.num) (is_of (
         here true u = absurd (let wrong = there u in cc)
         here false u = refl
 
--- an LRA is not begun by facts with other origins and numbers
+-- facts with other origins and numbers don't begin the LRA that f begins
 not_begun : (f : Fact) (done : List Fact) → AllByRecursion (λ g. f.origin ≡ g.origin → f.num ≡ g.num → ⊥) done → is_begun done (begun_by f) ≡ false
 not_begun f [] h = refl
 not_begun f (g ∷ done) h = by (begins (begun_by f) g) refl (not_begun f done h.1)
@@ -96,7 +96,7 @@ homes_of : (home other : ℕ) (qs : List Record) → other ≡ home → AllByRec
 homes_of home other [] e h = tt
 homes_of home other (q ∷ qs) e h = (h.0 ∙ sym e, homes_of home other qs e h.1)
 
--- there is one for each begin
+-- there is one record for each begin
 built_length : (nodes home : ℕ) (S done : List Fact) → AreOnce done → length (built nodes home S done) ≡ length (filter (begins_held S home) done)
 built_length nodes home S [] once = refl
 built_length nodes home S (f ∷ done) once = by (begins_held S home f) refl (built_length nodes home S done once.1)
@@ -114,7 +114,8 @@ absorbed true true r = refl
 absorbed true false r = refl
 absorbed false c r = refl
 
--- records that stand for a set, in which no fact stands twice, are as many as the LRAs of the home that it holds
+-- records that stand for a set in which no fact stands twice number as many as the LRAs of the home
+-- that it holds
 pub held_count : (nodes home : ℕ) (S : List Fact) (records : List Record) → AreOf home records → Stands nodes home S records → AreOnce S → length records ≡ held_at S home
 held_count nodes home S records order stands once =
     ap (λ (qs : List Record). length qs) (one_view nodes home S records (built nodes home S S) order (built_are_of nodes home S S) stands (λ l at. built_stands nodes home S S l at ∙ absorbed (is_begun S l) _ (record_of nodes S l)))

@@ -10,7 +10,7 @@ use Rattle.lra_forest.proofs.MembersAndStamps.{find_in}
 use Rattle.lra_forest.proofs.Places.{beyond_all, found_place}
 use Rattle.lra_forest.proofs.Puts.{put_find}
 
--- a record with a number has it
+-- a record that is looked up with a number has that number
 pub with_number_is : (num : ℕ) (o : Option Record) (r : Record) → with_number num o ≡ Some r → (o ≡ Some r) × (r.num ≡ num)
 with_number_is num None r e = absurd cc
 with_number_is num (Some q) r e = by (q.num == num) refl e
@@ -22,7 +22,7 @@ with_number_is num (Some q) r e = by (q.num == num) refl e
         (e, sym (ap (λ (x : Record). x.num) same) ∙ number)
     by false t e = absurd cc
 
--- with the record that was there put back they are as before
+-- if the record that was there is put back, the records are as before
 pub put_back : (kept next : Record) (qs : List Record) → with_number next.num (slice_get qs (count_below next.num qs)) ≡ Some kept → put_record kept (put_record next qs) ≡ qs
 put_back kept next [] e = absurd cc
 put_back kept next (q ∷ qs) e = by (put_back kept next qs) (nat_lt q.num next.num) refl e
@@ -49,7 +49,8 @@ all_beyond : (num : ℕ) (qs : List Record) → AllByRecursion (λ r. num < r.nu
 all_beyond num [] h = refl
 all_beyond num (q ∷ qs) h = let more = h.0 in let test : nat_lt num q.num ≡ true = grind (arith, nat_tests, more) in rw test (ap (λ xs. q ∷ xs) (all_beyond num qs h.1))
 
--- those after the place of a number have greater numbers, save one that has it
+-- the records after the place of a number have greater numbers, except one that has the number
+-- itself
 pub rest_after : (num : ℕ) (qs : List Record) → IsAscending qs → is_some (with_number num (slice_get qs (count_below num qs))) ≡ true → drop (count_below num qs + 1) qs ≡ filter (λ r. nat_lt num r.num) qs
 rest_after num [] h e = absurd cc
 rest_after num (q ∷ qs) h e = by (rest_after num qs h.1) (nat_lt q.num num) refl e
@@ -101,7 +102,7 @@ found_at home qs spare h r view order at =
     let same : r.home ≡ home = at ∙ sym (ap (λ (x : HomeRecords). x.home) view) in
     ap (λ (x : HomeRecords). find (is_of (id_of r)) x.records) (sym view) ∙ found_place (id_of r) qs (subst (λ (n : ℕ). AreOf n qs) (sym same) order)
 
--- what is known after a record was put in the place of another
+-- what is known after a record was put in the place of another, which was kept aside
 pub record IsExchanged (h new : HomeRecords) (next kept : Record) : Type 0 where
   pub own : kept.home ≡ new.home
   pub there : find (is_of (id_of kept)) new.records ≡ Some next

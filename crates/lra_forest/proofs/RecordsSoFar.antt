@@ -1,4 +1,4 @@
--- the records of the begins so far
+-- the records that the begins so far have made
 use Rattle.std.proofs.Common.{◌≡◌, ◌&&◌, ◌||◌, ◌==◌, ◌∷◌, ◌++◌, ℕ, List, [], refl, sym, ap, subst, ◌∙◌, Bool, true, false, cond, arith, Some, None, find}
 use Rattle.std.specs.List.{list_any}
 use Rattle.std.proofs.lemmas.Bool.Decides.{nat_tests}
@@ -14,7 +14,7 @@ use Rattle.lra_forest.proofs.Bools.{and_left, and_right}
 use Rattle.lra_forest.proofs.Puts.{put_are_of, put_find}
 use Rattle.lra_forest.proofs.NumberedMembers.{same_is}
 
--- the records are those of the LRAs that are held and were begun so far
+-- the records are those of the held LRAs that were begun so far
 abbrev pub StandSoFar : ℕ → ℕ → List Fact → List Fact → List Record → Type 0
 StandSoFar nodes home S done records = (l : Id) → l.home ≡ home → find (is_of l) records ≡ cond (is_held S l && is_begun done l) (Some (record_of nodes S l)) None
 
@@ -53,7 +53,7 @@ equal_number a b e = grind (arith, nat_tests, e)
 same_test : (a b : ℕ) → a ≡ b → (a == b) ≡ true
 same_test a b e = grind (arith, nat_tests, e)
 
--- one more that is held
+-- the next begin is of a held LRA: its record is put
 pub stand_put : (nodes home : ℕ) (S done : List Fact) (f : Fact) (records : List Record) (r : Record) (id : Id) → AreOf home records → StandSoFar nodes home S done records → begins_held S home f ≡ true → id ≡ begun_by f → r ≡ record_of nodes S id → StandSoFar nodes home S (done ++ f ∷ []) (put_record r records)
 stand_put nodes home S done f records r id order stand begun is made l at =
     put_find home r records l own order
@@ -87,7 +87,7 @@ stand_put nodes home S done f records r id order stand begun is made l at =
     by false true s t = absurd (let wrong : is_of l r ≡ true = matches ∙ and_right (is_begin f.body) _ t in cc)
     by false false s t = stand l at ∙ as_before (is_held S l) (is_begun done l) (Some (record_of nodes S l)) None
 
--- one more that is not held, or no begin of the home
+-- the next fact is of an LRA that is not held, or is no begin of the home: nothing is put
 pub stand_skip : (nodes home : ℕ) (S done : List Fact) (f : Fact) (records : List Record) → StandSoFar nodes home S done records → begins_held S home f ≡ false → StandSoFar nodes home S (done ++ f ∷ []) records
 stand_skip nodes home S done f records stand begun l at =
     stand l at ∙ by (begins l f) refl ∙ ap (λ b. cond (is_held S l && b) (Some (record_of nodes S l)) None) (sym (any_last (begins l) done f))
@@ -103,7 +103,7 @@ stand_skip nodes home S done f records stand begun l at =
         only a b c e g = rw (e, g) refl
     by false t = as_before (is_held S l) (is_begun done l) (Some (record_of nodes S l)) None
 
--- what is made of the facts so far
+-- what is known of the records made of the facts so far
 pub record IsMade (nodes home : ℕ) (S done : List Fact) (h : HomeRecords) : Type 0 where
   pub own : h.home ≡ home
   pub order : AreOf home h.records
@@ -112,7 +112,7 @@ pub record IsMade (nodes home : ℕ) (S done : List Fact) (h : HomeRecords) : Ty
 pub own_home : (home : ℕ) (S : List Fact) (f : Fact) → begins_held S home f ≡ true → f.origin ≡ home
 own_home home S f e = equal_number f.origin home (and_left (f.origin == home) _ (and_right (is_begin f.body) _ e))
 
--- the test and the id of a begin that is held
+-- what the test of a begin and its id mean, if it is held
 pub begun_is : (b : Bool) (own id : Id) → Some id ≡ cond b (Some own) None → (b ≡ true) × (id ≡ own)
 begun_is true own id e = (refl, cc)
 begun_is false own id e = absurd cc

@@ -1,4 +1,4 @@
--- records with one fewer, and the room that is left
+-- records after one was removed, and the room that is left
 use Rattle.std.proofs.Common.{◌≡◌, ◌≤◌, ◌<◌, ◌+◌, ◌==◌, ◌∷◌, ℕ, List, [], refl, sym, ap, subst, ◌∙◌, Bool, true, false, cond, arith, Some, None, find, filter, nat_lt, add-one, slice_get, is_some}
 use mathlib.Core.Bool.{not}
 use Rattle.std.specs.List.{AllByRecursion, remove}
@@ -9,7 +9,7 @@ use Rattle.lra_forest.specs.Forests.{HomeRecords, IsAscending, AreOf, id_of, is_
 use Rattle.lra_forest.specs.Places.{count_below, with_number}
 use Rattle.lra_forest.proofs.Places.{beyond_all, found_place}
 
--- each that the test passes stays
+-- if every record passes the test, all stay
 pub keeps_all : (t : Record → Bool) (qs : List Record) → AllByRecursion (λ r. t r ≡ true) qs → filter t qs ≡ qs
 keeps_all t [] h = refl
 keeps_all t (q ∷ qs) h = let here = h.0 in rw here (ap (λ xs. q ∷ xs) (keeps_all t qs h.1))
@@ -21,7 +21,7 @@ other_numbers num (q ∷ qs) h = let more = h.0 in (grind (arith, nat_tests, mor
 pub none_beyond : (num : ℕ) (qs : List Record) → AllByRecursion (λ r. num < r.num) qs → filter (λ r. not (r.num == num)) qs ≡ qs
 none_beyond num qs h = keeps_all (λ r. not (r.num == num)) qs (other_numbers num qs h)
 
--- where the number stands, the record there is taken away
+-- if the number stands there, the record there is taken away
 pub remove_at : (num : ℕ) (qs : List Record) → IsAscending qs → is_some (with_number num (slice_get qs (count_below num qs))) ≡ true → remove qs (count_below num qs) ≡ filter (λ r. not (r.num == num)) qs
 remove_at num [] h e = absurd cc
 remove_at num (q ∷ qs) h e = by (remove_at num qs h.1) (nat_lt q.num num) refl e
@@ -38,7 +38,7 @@ remove_at num (q ∷ qs) h e = by (remove_at num qs h.1) (nat_lt q.num num) refl
         here true s e = let same : num ≤ q.num = grind (arith, nat_tests, s) in sym (none_beyond num qs (beyond_all num q.num qs same h.0))
         here false s e = absurd cc
 
--- elsewhere nothing is
+-- otherwise nothing is taken away
 pub remove_none : (num : ℕ) (qs : List Record) → IsAscending qs → is_some (with_number num (slice_get qs (count_below num qs))) ≡ false → qs ≡ filter (λ r. not (r.num == num)) qs
 remove_none num [] h e = refl
 remove_none num (q ∷ qs) h e = by (remove_none num qs h.1) (nat_lt q.num num) refl e
@@ -71,7 +71,7 @@ filter_own l home (q ∷ qs) at h =
     by rest true false e = absurd cc
     by rest false true e = absurd cc
 
--- among records of another home none is of it
+-- among records of another home none is of that LRA
 pub filter_other : (l : Id) (home : ℕ) (qs : List Record) → (l.home ≡ home → ⊥) → AllByRecursion (λ r. r.home ≡ home) qs → qs ≡ filter (λ r. not (is_of l r)) qs
 filter_other l home qs at h = sym (keeps_all (λ r. not (is_of l r)) qs (others qs h))
   where
@@ -99,11 +99,11 @@ kept_ascends t (q ∷ qs) h = by (t q) (kept_ascends t qs h.1)
     by true rest = (kept_all (λ x. q.num < x.num) t qs h.0, rest)
     by false rest = rest
 
--- those that a test passes are still in order
+-- the records that pass a test are still in order
 pub filter_are_of : (t : Record → Bool) (home : ℕ) (qs : List Record) → AreOf home qs → AreOf home (filter t qs)
 filter_are_of t home qs h = record { homes = kept_all (λ r. r.home ≡ home) t qs h.homes; ascending = kept_ascends t qs h.ascending }
 
--- there is room for a record where none is to be replaced
+-- there is room for a record if none is to be replaced
 pub room_for : (home : ℕ) (qs : List Record) (spare : ℕ) (h : HomeRecords) (r : Record) → ◌≡◌ {A = HomeRecords} (record { home = home; records = qs; spare = spare }) h → AreOf home qs → r.home ≡ h.home → (find (is_of (id_of r)) h.records ≡ None → 1 ≤ h.spare) → with_number r.num (slice_get qs (count_below r.num qs)) ≡ None → 1 ≤ spare
 room_for home qs spare h r view order at room none =
     let same : r.home ≡ home = at ∙ sym (ap (λ (x : HomeRecords). x.home) view) in

@@ -1,4 +1,4 @@
--- records of which each has its place
+-- records that each have their place
 use Rattle.std.proofs.Common.{◌≡◌, ◌↔◌, ◌⊎◌, inl, inr, ◌<◌, ◌-◌, ◌≤◌, ◌&&◌, ℕ, zero, suc, List, refl, sym, ap, subst, ◌∙◌, Bool, true, false, cond, arith, Option, Some, None, Bor, is_none, is_some, length}
 use mathlib.Core.Bool.{not}
 use Rattle.std.specs.List.{AllByRecursion}
@@ -17,17 +17,17 @@ use Rattle.lra_forest.proofs.ChangedRecords.{found_after, found_kept, found_own,
 use Rattle.lra_forest.proofs.MembersAndStamps.{find_in}
 use Rattle.lra_forest.proofs.OnlyWhatChanges.{found_self}
 
--- one that is not there is not shallow
+-- an LRA that has no record is not shallow
 pub shallow_none : (levels home : ℕ) (records : List Record) (num : ℕ) → None ≡ found_at home records num → is_shallow levels home records num ≡ false
 shallow_none zero home records num e = refl
 shallow_none (suc levels) home records num e = let none = sym e in rw none refl
 
--- a root is
+-- a root is shallow
 pub shallow_root : (levels home : ℕ) (records : List Record) (num : ℕ) (r : Record) → 0 < levels → Some r ≡ found_at home records num → r.parent ≡ None → is_shallow levels home records num ≡ true
 shallow_root zero home records num r some e root = absurd (omega (arith, some))
 shallow_root (suc levels) home records num r some e root = let found = sym e in rw (found, root) refl
 
--- another is if its parent is, for a level less
+-- a nested LRA is shallow if its parent is, for one level less
 pub shallow_nested : (levels home : ℕ) (records : List Record) (num : ℕ) (r : Record) (p : Place) → 0 < levels → Some r ≡ found_at home records num → r.parent ≡ Some p → is_shallow levels home records num ≡ is_shallow (levels - 1) home records p.number
 shallow_nested zero home records num r p some e above = absurd (omega (arith, some))
 shallow_nested (suc levels) home records num r p some e above =
@@ -35,14 +35,15 @@ shallow_nested (suc levels) home records num r p some e above =
     let less : suc levels - 1 ≡ levels = omega arith in
     rw (found, above, less) refl
 
--- where a record is at hand, what holds above it tells
+-- if a record is at hand, whether its LRA is shallow depends on what is above it
 pub shallow_of_root : (home : ℕ) (records : List Record) (r : Record) → found_at home records r.num ≡ Some r → r.parent ≡ None → true ≡ is_shallow 8 home records r.num
 shallow_of_root home records r found root = sym (shallow_root 8 home records r.num r (omega arith) (sym found) root)
 
 pub shallow_of_nested : (home : ℕ) (records : List Record) (r : Record) (p : Place) → found_at home records r.num ≡ Some r → r.parent ≡ Some p → is_shallow 7 home records p.number ≡ is_shallow 8 home records r.num
 shallow_of_nested home records r p found above = sym (shallow_nested 8 home records r.num r p (omega arith) (sym found) above)
 
--- one that is found once they are changed is one of the changes, or one that was there and stays
+-- a record that is found after the changes is one of the changes, or a record that was there and
+-- stays
 changed_from : (test : Record → Bool) (r : Record) (o own : Option Record) → option_or o (keep test own) ≡ Some r → (o ≡ Some r) ⊎ ((is_none o ≡ true) × (own ≡ Some r) × (test r ≡ true))
 changed_from test r (Some x) own e = inl e
 changed_from test r None None e = absurd cc
@@ -52,7 +53,7 @@ changed_from test r None (Some x) e = let kept = by (test x) refl e in inr (refl
     by true passes e = let same : x ≡ r = cc in (e, sym (ap test same) ∙ passes)
     by false passes e = absurd cc
 
--- the changes have none with the record's number, and don't remove it
+-- no change has the record's number, and the changes don't remove it
 abbrev left_by : (home : ℕ) (removed : List Id) (changed : List Record) → Record → Bool
 left_by home removed changed r = is_none (found_at home changed r.num) && stays removed r
 
@@ -65,7 +66,7 @@ none_there : (o : Option Record) → is_none o ≡ true → o ≡ None
 none_there None e = refl
 none_there (Some r) e = absurd cc
 
--- once they are changed, each of the changes is found
+-- after the changes, each of them is found
 found_change : (home there : ℕ) (removed : List Id) (changed own : List Record) (r : Record) → there ≡ home → AreOf there changed → AreOf home own → In r changed → found_at home (changed_by removed changed own) r.num ≡ Some r
 found_change home there removed changed own r same h g m =
     sym (found_after home there removed changed own r.num same h g)
@@ -75,7 +76,7 @@ pub all_found : (home there : ℕ) (removed : List Id) (changed own : List Recor
 all_found home there removed changed own same h g =
     all_from (λ r. found_at home (changed_by removed changed own) r.num ≡ Some r) changed (λ r m. found_change home there removed changed own r same h g m)
 
--- and so is each that they leave
+-- and so is each record that they leave
 pub found_left : (home there : ℕ) (removed : List Id) (changed own : List Record) (r : Record) → there ≡ home → AreOf there changed → AreOf home own → In r own → left_by there removed changed r ≡ true → found_at home (changed_by removed changed own) r.num ≡ Some r
 found_left home there removed changed own r same h g m e =
     sym (found_after home there removed changed own r.num same h g)
@@ -84,21 +85,21 @@ found_left home there removed changed own r same h g m e =
     ∙ ap (keep (stays removed)) (found_self home own r g m)
     ∙ ap (λ b. cond b (Some r) None) (and_right (is_none (found_at there changed r.num)) (stays removed r) e)
 
--- that a record that is left has its place, by two tests
+-- a record that the changes leave has its place, by two tests
 pub unless_left : (X : Type 0) (placed left is : Bool) → (is ≡ true → ((placed ≡ true) ↔ X)) → placed ≡ false → left ≡ is → ((not left ≡ true) ↔ (is ≡ true → X))
 unless_left X placed true true h missed e = (λ yes. absurd cc, λ fits. absurd (let placed = (h refl).1 (fits refl) in cc))
 unless_left X placed false false h missed e = (λ yes left. absurd cc, λ fits. refl)
 unless_left X placed true false h missed e = absurd cc
 unless_left X placed false true h missed e = absurd cc
 
--- what was tested of each
+-- what was tested of each change and each record that is left
 abbrev pub ChangesFit : (front : List ℕ) (home : ℕ) (removed : List Id) (changed own : List Record) → Type 0
 ChangesFit front home removed changed own = AllByRecursion (λ r. IsInPlace front home (changed_by removed changed own) r.num r) changed
 
 abbrev pub LeftFit : (front : List ℕ) (home there : ℕ) (removed : List Id) (changed own : List Record) → Type 0
 LeftFit front home there removed changed own = AllByRecursion (λ r. left_by there removed changed r ≡ true → IsInPlace front home (changed_by removed changed own) r.num r) own
 
--- where each that is left and each of the changes has its place, all have
+-- if each record that is left and each of the changes has its place, all have
 all_fitted : (front : List ℕ) (home there : ℕ) (removed : List Id) (changed own : List Record) → there ≡ home → AreOf there changed → AreOf home own
     → LeftFit front home there removed changed own → ChangesFit front home removed changed own
     → (num : ℕ) → IsInPlaceAt front home (changed_by removed changed own) num
@@ -117,7 +118,7 @@ all_fitted front home there removed changed own same h g mine theirs num r e =
         let left = both_true (is_none (found_at there changed r.num)) (stays removed r) (ap (λ n. is_none (found_at there changed n)) number ∙ kept.0) kept.2 in
         subst (λ n. IsInPlace front home (changed_by removed changed own) n r) number (all_in (λ x. left_by there removed changed x ≡ true → IsInPlace front home (changed_by removed changed own) x.num x) own mine r inside left)
 
--- and the other way
+-- and conversely
 pub each_change : (front : List ℕ) (home there : ℕ) (removed : List Id) (changed own : List Record) → there ≡ home → AreOf there changed → AreOf home own → AreInShape front home (changed_by removed changed own) → ChangesFit front home removed changed own
 each_change front home there removed changed own same h g shape =
     all_from (λ r. IsInPlace front home (changed_by removed changed own) r.num r) changed (λ r m. shape.in_place r.num r (found_change home there removed changed own r same h g m))
@@ -126,7 +127,7 @@ pub each_left : (front : List ℕ) (home there : ℕ) (removed : List Id) (chang
 each_left front home there removed changed own same h g shape =
     all_from (λ r. left_by there removed changed r ≡ true → IsInPlace front home (changed_by removed changed own) r.num r) own (λ r m left. shape.in_place r.num r (found_left home there removed changed own r same h g m left))
 
--- the record of an LRA that is nested as this member is there
+-- the record of the LRA that is nested as this member is there
 abbrev pub IsThere : (home : ℕ) → List Record → Member → Type 0
 IsThere home records (Nested child) = is_some (found_at home records child) ≡ true
 IsThere home records (Participant p) = Unit {0}
@@ -143,12 +144,12 @@ all_there home records members h = all_from (IsThere home records) members by
     by (Participant p) i = tt
     by Left i = tt
 
--- behind a reference there is as much as there is
+-- a copied reference is there exactly if the reference is
 pub copied_some : {X : Type 0} (o : Option (Bor X)) → is_some (option_copied o) ≡ is_some o
 copied_some None = refl
 copied_some (Some r) = refl
 
--- at most 256 of which each has its place are in shape
+-- at most 256 records that each have their place are in shape
 pub shape_from : (front : List ℕ) (home there : ℕ) (removed : List Id) (changed own : List Record) → there ≡ home → AreOf there changed → AreOf home own
     → length (changed_by removed changed own) ≤ 256 → LeftFit front home there removed changed own → ChangesFit front home removed changed own
     → AreInShape front home (changed_by removed changed own)

@@ -17,7 +17,7 @@ use Rattle.lra_forest.proofs.Puts.{put_are_of, put_behind, put_find}
 abbrev at : ℕ → ℕ → Id
 at home num = record { home = home; num = num }
 
--- among records of one home the number tells whose a record is
+-- among records of one home, the number decides whether a record is that of the LRA
 pub by_number : (home num : ℕ) (r : Record) → r.home ≡ home → is_of (at home num) r ≡ (r.num == num)
 by_number home num r own = let same : (r.home == home) ≡ true = grind (arith, nat_tests, own) in rw same refl
 
@@ -30,11 +30,12 @@ merged_id r t = by (nat_le (home_stamp t) (home_stamp r)) refl
     by true e = rw e (refl, refl)
     by false e = rw e (refl, refl)
 
--- what is put of an LRA, held or not, where the other has this record and the receiver counts its begin or not
+-- what is to be put of an LRA, whether it has a record here or not, if the other node has this
+-- record and the receiver has or has not covered its begin
 abbrev pub IsNews : (home : ℕ) → List Record → (covered : Bool) → Record → Option Record → Type 0
 IsNews home own covered heard put = IsPut (found_at home own heard.num) (brought covered (found_at home own heard.num) (Some heard)) put
 
--- it is a record of the same LRA
+-- the put record is of the same LRA
 pub news_of : (home : ℕ) (own : List Record) (covered : Bool) (heard next : Record) → heard.home ≡ home
     → IsNews home own covered heard (Some next) → (next.home ≡ home) × (next.num ≡ heard.num)
 news_of home own covered heard next of put = by covered (found_at home own heard.num) refl (sym put.0)
@@ -48,31 +49,31 @@ news_of home own covered heard next of put = by covered (found_at home own heard
         let id = merged_id r heard in
         (ap (λ (x : Record). x.home) same ∙ id.0 ∙ is.0, ap (λ (x : Record). x.num) same ∙ id.1 ∙ is.1)
 
--- once it is put, it is found, and the others as before
+-- after it is put, the record is found, and the others are found as before
 pub news_found : (home : ℕ) (old : List Record) (next : Record) (num n : ℕ) (b : Bool) → AreOf home old → next.home ≡ home → next.num ≡ num → (num == n) ≡ b
     → found_at home (put_record next old) n ≡ cond b (Some next) (found_at home old n)
 news_found home old next num n b order of is e =
     put_find home next old (at home n) of order
     ∙ ap (λ c. cond c (Some next) (found_at home old n)) (by_number home n next of ∙ ap (λ k. k == n) is ∙ e)
 
--- lesser numbers are up to it
+-- records with lesser numbers are up to the number
 pub up_to : (n : ℕ) (qs : List Record) → AllByRecursion (λ (q : Record). q.num < n) qs → AllByRecursion (λ (q : Record). q.num ≤ n) qs
 up_to n [] h = tt
 up_to n (q ∷ qs) h = (omega (arith, h.0), up_to n qs h.1)
 
--- and so they are with it behind them
+-- and they still are with a record of that number behind them
 pub up_to_it : (n : ℕ) (r : Record) (qs : List Record) → r.num ≡ n → AllByRecursion (λ (q : Record). q.num < n) qs → AllByRecursion (λ (q : Record). q.num ≤ n) (qs ++ r ∷ [])
 up_to_it n r [] is h = (omega (arith, is), tt)
 up_to_it n r (q ∷ qs) is h = (omega (arith, h.0), up_to_it n r qs is h.1)
 
--- and none of them has it
+-- and none of them has the number
 pub none_has : (home n : ℕ) (qs : List Record) → AllByRecursion (λ (q : Record). q.num < n) qs → found_at home qs n ≡ None
 none_has home n [] h = refl
 none_has home n (q ∷ qs) h =
     let other : is_of (at home n) q ≡ false = let less = h.0 in grind (arith, nat_tests, less) in
     rw other (none_has home n qs h.1)
 
--- those up to a number are lesser than those behind it
+-- records up to a number have lesser numbers than those behind it
 all_lesser : (n m : ℕ) (qs : List Record) → n < m → AllByRecursion (λ (q : Record). q.num ≤ n) qs → AllByRecursion (λ (q : Record). q.num < m) qs
 all_lesser n m [] less h = tt
 all_lesser n m (q ∷ qs) less h = (omega (arith, less, h.0), all_lesser n m qs less h.1)
@@ -86,11 +87,12 @@ all_behind n qs (t ∷ rest) h less = (all_lesser n t.num qs less.0 h, all_behin
 abbrev pub IsRight : (home mine : ℕ) (own : List Record) → ℕ → Option Record → Option Record → Type 0
 IsRight home mine own num theirs put = IsPut (found_at home own num) (brought (nat_le num mine) (found_at home own num) theirs) put
 
--- and what is to be told of it
+-- and what the receiver is to be told of it
 abbrev pub IsToldTo : (home : ℕ) (own : List Record) → ℕ → Option Record → Option Record → Type 0
 IsToldTo home own num theirs told = IsTold (found_at home own num) theirs told
 
--- Of all that the other has, what is left is still to be brought, and the records are what was brought, each as it has to be
+-- Of all records that the other node has, `rest` is still to be brought, and `records` are what was
+-- brought, each as it has to be
 pub record IsBringing (Has : ℕ → Option Record → Option Record → Type 0) (home : ℕ) (all rest records : List Record) : Type 0 where
   pub order : AreOf home records
   pub left : AreOf home rest
@@ -98,7 +100,7 @@ pub record IsBringing (Has : ℕ → Option Record → Option Record → Type 0)
   pub behind : AllByRecursion (λ (t : Record). AllByRecursion (λ (q : Record). q.num < t.num) records) rest
   pub there : (num : ℕ) → is_some (found_at home rest num) ≡ false → Has num (found_at home all num) (found_at home records num)
 
--- one record more behind all others
+-- the records after one more is put behind all others
 pub record IsPushed (home num : ℕ) (r : Record) (qs : List Record) : Type 0 where
   pub order : AreOf home (qs ++ r ∷ [])
   pub last : AllByRecursion (λ (q : Record). q.num ≤ num) (qs ++ r ∷ [])
@@ -117,7 +119,7 @@ pushed home num r qs of is order less = record {
     put : put_record r qs ≡ qs ++ r ∷ []
     put = put_behind r qs (subst (λ n. AllByRecursion (λ (q : Record). q.num < n) qs) (sym is) less)
 
--- one more is brought
+-- one more record is brought
 pub bringing_more : (Has : ℕ → Option Record → Option Record → Type 0) (home : ℕ) (all rest records new : List Record) (t : Record) → IsBringing Has home all (t ∷ rest) records → AreOf home new
     → AllByRecursion (λ (q : Record). q.num ≤ t.num) new
     → Has t.num (Some t) (found_at home new t.num)
@@ -155,7 +157,7 @@ bringing_more Has home all rest records new t h order last_is put others = recor
 
 -- What is gone
 
--- those of which there is a record that passes the test
+-- the LRAs of which there is a record that passes the test
 abbrev pub AreGone : (ℕ → Bool) → ℕ → List Record → List Id → Type 0
 AreGone test home own removed = (num : ℕ) → list_any (λ (l : Id). l.num == num) removed ≡ (is_some (found_at home own num) && test num)
 
@@ -186,7 +188,7 @@ ids_are_gone test home (r ∷ rs) homes num =
 
 -- What is changed
 
--- among LRAs of one home the number tells whose a record is
+-- among LRAs of one home, the number decides whether a record is that of the LRA
 listed : (home : ℕ) (removed : List Id) (r : Record) → AllByRecursion (λ l. l.home ≡ home) removed → r.home ≡ home → list_any (λ l. is_of l r) removed ≡ list_any (λ (l : Id). l.num == r.num) removed
 listed home [] r h own = refl
 listed home (l ∷ ls) r h own = ap (λ b. b || list_any (λ l. is_of l r) ls) (here (sym h.0)) ∙ ap (λ b. (l.num == r.num) || b) (listed home ls r h.1 own)
@@ -194,7 +196,7 @@ listed home (l ∷ ls) r h own = ap (λ b. b || list_any (λ l. is_of l r) ls) (
     here : home ≡ l.home → is_of l r ≡ (l.num == r.num)
     here at = grind (arith, nat_tests, own, at)
 
--- The four rules: what is put is put, what is gone is taken out, and the rest stays
+-- The four rules: what is put is put, what is gone is removed, and everything else stays
 pub takes : (home told : ℕ) (covered : Bool) (held : Option (List ℕ)) (removed : List Id) (changed own other : List Record) (num : ℕ) → AreOf home changed → AreOf home own
     → AllByRecursion (λ l. l.home ≡ home) removed
     → AreGone (λ n. is_none (found_at home other n) && is_gone told held n) home own removed

@@ -42,7 +42,7 @@ use Rattle.lra_forest.proofs.RecordsOfASet.{found_parent, found_root, held_if_fo
 
 -- Tests along a chain
 
--- its first passes
+-- the first record of the chain passes
 pub any_here : (test : Record → Bool) (levels : ℕ) (at : ℕ → Option Record) (num : ℕ) (r : Record) → 0 < levels → at num ≡ Some r → test r ≡ true → list_any test (records_up levels at num) ≡ true
 any_here test levels at num r some found passes = by r.parent refl
   where
@@ -53,7 +53,7 @@ any_here test levels at num r some found passes = by r.parent refl
     by None e = ap (list_any test) (up_root levels at num r some found e) ∙ first []
     by (Some p) e = ap (list_any test) (up_more levels at num r p some found e) ∙ first (records_up (levels - 1) at p.number)
 
--- its first is a root, and decides
+-- the first record is a root's, so it decides
 pub any_root : (test : Record → Bool) (levels : ℕ) (at : ℕ → Option Record) (num : ℕ) (r : Record) → 0 < levels → at num ≡ Some r → r.parent ≡ None → list_any test (records_up levels at num) ≡ test r
 any_root test levels at num r some found e = ap (list_any test) (up_root levels at num r some found e) ∙ by (test r)
   where
@@ -61,7 +61,7 @@ any_root test levels at num r some found e = ap (list_any test) (up_root levels 
     by true = refl
     by false = refl
 
--- its first does not pass
+-- the first record does not pass
 pub any_above : (test : Record → Bool) (levels next : ℕ) (at : ℕ → Option Record) (num : ℕ) (r : Record) (p : Place) → 0 < levels → levels - 1 ≡ next → at num ≡ Some r → r.parent ≡ Some p → test r ≡ false
     → list_any test (records_up levels at num) ≡ list_any test (records_up next at p.number)
 any_above test levels next at num r p some less found e fails =
@@ -71,7 +71,8 @@ any_above test levels next at num r p some less found e fails =
 
 -- Chains
 
--- some record of a chain passes a test as some LRA of it does, where each record tells of its LRA what the set does
+-- some record of a chain passes a test exactly if some LRA of the chain does, if each record tells
+-- of its LRA what the set does
 chain_said : (nodes home : ℕ) (S : List Fact) (records : List Record) (test : Record → Bool) (passes : Id → Bool) → IsWhole S → Stands nodes home S records
     → ((num : ℕ) (r : Record) → is_held S (at home num) ≡ true → found_at home records num ≡ Some r → test r ≡ passes (at home num))
     → (levels num : ℕ) → is_held S (at home num) ≡ true → depth S (at home num) ≤ levels
@@ -110,7 +111,7 @@ chain_said nodes home S records test passes whole stands same (suc levels) num h
     by rises None e = absurd (nothing_found nodes S records (at home num) stands held e)
     by rises (Some r) e = by_parent rises r r.parent e refl
 
--- the number of a record that is found
+-- a record that is found has the number it was looked up by
 pub found_number : (home num : ℕ) (records : List Record) (r : Record) → found_at home records num ≡ Some r → r.num ≡ num
 found_number home num records r found = let is = (find_in (is_of (at home num)) records r found).1 in grind (arith, nat_tests, is)
 
@@ -193,7 +194,7 @@ either_hear false p = refl
 pub hears_owes : (at : ℕ → Option Record) (r : Record) (p : ParticipantRecord) → is_to_hear at r p ≡ owes (owing_at Tell at r) p
 hears_owes at r p = either_hear (is_at_end_at at r.num) p
 
--- what passes is what is owed
+-- what passes the test is what is owed
 abbrev pub Agrees : (ParticipantRecord → Bool) → Owing → Type 0
 Agrees passes owing = (p : ParticipantRecord) → passes p ≡ owes owing p
 
@@ -211,7 +212,7 @@ first_member_is passes owing agrees l k (m ∷ ms) = ap (λ (b : Bool). cond b (
     by true rest = refl
     by false rest = rest
 
--- the answer of an LRA and a participant that are there
+-- the answer for an LRA and a participant that are there
 pub tested_is : (test : Record → ParticipantRecord → Bool) (at : ℕ → Option Record) (num m : ℕ) (r : Record) (p : ParticipantRecord) (b : Bool) → at num ≡ Some r → participant_of at num m ≡ Some p → b ≡ test r p
     → Ok b ≡ answered_of (is_some (at num)) (is_some (participant_of at num m)) (option_map_or (λ (q : Record). option_map_or (test q) (participant_of at num m) false) (at num) false)
 tested_is test at num m r p b found joined is =
@@ -246,7 +247,7 @@ no_first : (xs : List Due) → slice_get xs 0 ≡ None → xs ≡ []
 no_first [] e = refl
 no_first (x ∷ xs) e = absurd cc
 
--- where none has anything to forget, nothing is owed, whether the root is ended or not
+-- if no participant has anything to forget, nothing is owed, whether the root is ended or not
 pub none_forgetting : (at : ℕ → Option Record) (r : Record) (lra : Id) (ms : List Member) → slice_get (owed_by (forgetting_at at r) lra 1 ms) 0 ≡ None → owed_by Nothing lra 1 ms ≡ owed_by (owing_at Forget at r) lra 1 ms
 none_forgetting at r lra ms none = nothing_owed lra 1 ms ∙ sym (by (is_over_at at r.num))
   where
@@ -254,7 +255,7 @@ none_forgetting at r lra ms none = nothing_owed lra 1 ms ∙ sym (by (is_over_at
     by true = no_first (owed_by (forgetting_at at r) lra 1 ms) none
     by false = nothing_owed lra 1 ms
 
--- where none has anything to hear, nothing is owed, whether the LRA has ended or not
+-- if no participant has anything to hear, nothing is owed, whether the LRA has ended or not
 pub none_hearing : (at : ℕ → Option Record) (r : Record) (lra : Id) (ms : List Member) → slice_get (owed_by Hearing lra 1 ms) 0 ≡ None → owed_by Nothing lra 1 ms ≡ owed_by (owing_at Tell at r) lra 1 ms
 none_hearing at r lra ms none = nothing_owed lra 1 ms ∙ sym (by (is_at_end_at at r.num))
   where
@@ -314,7 +315,7 @@ end_told_said nodes S records l m seated stands held some =
 
 -- What is below
 
--- a record's LRA is below another where the set has it under that
+-- by the records an LRA is below another exactly if the set has it under that one
 pub below_said : (nodes home : ℕ) (S : List Fact) (records : List Record) (num : ℕ) (r : Record) → IsWhole S → IsNested S → AllByRecursion IsNumbered S → Stands nodes home S records → found_at home records r.num ≡ Some r
     → is_below (found_at home records) num r ≡ is_under S (at home num) (at home r.num)
 below_said nodes home S records num r whole nest numbers stands found =
@@ -322,7 +323,7 @@ below_said nodes home S records num r whole nest numbers stands found =
     ap (λ (b : Bool). b && is_under_at (found_at home records) num r.num) (number_passes r.num (held_number S (at home r.num) numbers held))
     ∙ under_said nodes home S records num r.num whole nest stands held
 
--- the ids of records that pass a test
+-- the id of a record that passes a test is among the ids of those that do
 id_kept : (p : Record → Bool) (rs : List Record) (r : Record) → In r rs → p r ≡ true → In (id_of r) (map id_of (filter p rs))
 id_kept p [] r i e = absurd i
 id_kept p (q ∷ rs) r i e = by (p q) refl i (id_kept p rs r)
@@ -342,7 +343,7 @@ kept_id p (q ∷ rs) l i = by (p q) refl i (kept_id p rs l)
     by true t (inr inside) rest = let k = rest inside in (k.0, inr k.1, k.2, k.3)
     by false t inside rest = let k = rest inside in (k.0, inr k.1, k.2, k.3)
 
--- an LRA is among them where it has such a record
+-- an LRA is among them exactly if it has such a record
 pub id_below : (at : ℕ → Option Record) (num : ℕ) (records : List Record) (r : Record) → In r records → is_below at num r ≡ true → In (id_of r) (ids_below at num records)
 id_below at num records r i below = id_kept (is_below at num) records r i below
 

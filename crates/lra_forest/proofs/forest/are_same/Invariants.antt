@@ -1,7 +1,7 @@
 use Rattle.std.proofs.Common.{◌≡◌}
 use Rattle.lra_forest.proofs.forest.are_same.Given as goal
 
--- all are the same just where those are that are left
+-- the lists are the same exactly if what is left is
 abbrev pub invariant-loop-theirs : goal.invariant-loop-theirs
 invariant-loop-theirs l = record {
   all : l.own ≡ l.theirs-iterator → l.fn.own ≡ l.fn.other;

@@ -3,7 +3,7 @@ use Rattle.lra_forest.specs.RecordMerges.{held_numbers}
 use Rattle.lra_forest.specs.OnlyChanges.{ids_lost}
 use Rattle.lra_forest.proofs.merging.all_gone.Given as goal
 
--- those so far, and those of the records that are left
+-- the LRAs so far, and those of the records that are left
 abbrev pub invariant-loop-record : goal.invariant-loop-record
 invariant-loop-record l =
     let those = ids_lost l.other.records.home l.told (held_numbers l.other.held) l.other.records.records in

@@ -1,7 +1,7 @@
 use Rattle.std.proofs.Common.{◌≡◌, ◌+◌, ◌≤◌, ◌++◌, vec_capacity, vec_len}
 use Rattle.lra_forest.proofs.page.part_records.Given as goal
 
--- what was moved stands behind what is left
+-- the records that were moved stand behind those that are left
 abbrev pub invariant-down : goal.invariant-down
 invariant-down l = record {
   items : l.lower.items ++ l.upper.items ≡ l.initial.lower.items;

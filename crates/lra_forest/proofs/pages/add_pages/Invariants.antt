@@ -2,7 +2,7 @@ use Rattle.std.proofs.Common.{◌≡◌, ◌+◌, ◌≤◌, ◌^◌, vec_len}
 use Rattle.lra_forest.specs.Pages.{AreEmptyLast, empty_pages, records_in, weight_in}
 use Rattle.lra_forest.proofs.pages.add_pages.Given as goal
 
--- so many were added
+-- `added` pages were added
 abbrev pub invariant-loop-added : goal.invariant-loop-added
 invariant-loop-added l = record {
   same : records_in l.pages.items ≡ records_in l.initial.pages.items;

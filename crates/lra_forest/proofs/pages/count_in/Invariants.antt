@@ -2,7 +2,7 @@ use Rattle.std.proofs.Common.{◌≡◌, ◌+◌, ◌*◌, ◌≤◌, drop, leng
 use Rattle.lra_forest.specs.Pages.{records_in}
 use Rattle.lra_forest.proofs.pages.count_in.Given as goal
 
--- those so far, and those of the pages that are left
+-- the records counted so far, and those of the pages that are left
 abbrev pub invariant-loop-page : goal.invariant-loop-page
 invariant-loop-page l = record {
   few : l.count ≤ l.page-index * 32;

@@ -2,7 +2,7 @@ use Rattle.std.proofs.Common.{◌≡◌, ◌+◌, ◌≤◌, drop}
 use Rattle.lra_forest.specs.Pages.{empty_pages}
 use Rattle.lra_forest.proofs.pages.empty_in.Given as goal
 
--- those so far, and those of the pages that are left
+-- the empty pages counted so far, and those of the pages that are left
 abbrev pub invariant-loop-page : goal.invariant-loop-page
 invariant-loop-page l = record {
   few : l.count ≤ l.page-index;

@@ -2,7 +2,7 @@ use Rattle.std.proofs.Common.{◌≡◌, ◌++◌, length}
 use Rattle.lra_forest.specs.Pages.{records_in}
 use Rattle.lra_forest.proofs.pages.first_of.Given as goal
 
--- the same are left
+-- the same records are left
 abbrev pub invariant-over : goal.invariant-over
 invariant-over l = l.page ++ records_in l.pages ≡ l.initial.page ++ records_in l.initial.pages
 

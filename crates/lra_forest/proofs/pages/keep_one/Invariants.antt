@@ -2,7 +2,7 @@ use Rattle.std.proofs.Common.{◌≡◌, ◌+◌, ◌≤◌, vec_len}
 use Rattle.lra_forest.specs.Pages.{AreEmptyLast, empty_pages, records_in}
 use Rattle.lra_forest.proofs.pages.keep_one.Given as goal
 
--- the last ones were dropped, and the first of them wasn't
+-- of the `dropped` last pages, all but the first were dropped
 abbrev pub invariant-loop-dropped : goal.invariant-loop-dropped
 invariant-loop-dropped l = record {
   same : records_in l.pages.items ≡ records_in l.initial.pages.items;

@@ -2,7 +2,7 @@ use Rattle.std.proofs.Common.{◌≡◌, ◌≤◌, [], drop, length}
 use Rattle.lra_forest.specs.Pages.{records_in}
 use Rattle.lra_forest.proofs.pages.last_seat.Given as goal
 
--- no record stands behind
+-- no record stands behind the page
 abbrev pub invariant-down : goal.invariant-down
 invariant-down l = record {
   within : l.count ≤ length l.pages;

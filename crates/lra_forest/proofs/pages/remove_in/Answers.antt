@@ -17,7 +17,7 @@ remove-requires c =
     let within : c.page_of-at.result < length c.args.pages.now.items = omega (arith, c.if-at-len.false, c.len.ensures, c.args.pages.now.ok) in
     page_ascends c.args.pages.now.items c.page_of-at.result c.index_mut.result.now within c.index_mut.ensures.value c.requires.order
 
--- what the page is without the number
+-- the page without the number
 cut_of : (c : After-is_empty) → IsCut c.args.num c.page_of-at.result c.args.pages.now.items c.index_mut.result.now c.remove.new.self
 cut_of c =
     let num = c.args.num in
@@ -34,7 +34,7 @@ cut_of c =
       fewer = c.remove.ensures.len;
     }
 
--- the page is looked at again
+-- the page is looked at again, unchanged
 looked_at : (c : After-is_empty) → c.index.result.now ≡ c.remove.new.self
 looked_at c = c.index.ensures ∙ get_or-set_same c.args.pages.now.items c.page_of-at.result c.remove.new.self c.index.result.now (cut_of c).within
 

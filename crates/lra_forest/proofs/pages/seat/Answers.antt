@@ -51,7 +51,7 @@ returns-then-not-is_full-clause-seat c =
     seat_here c.args.num (c.page_of-at.result - 1) c.args.pages.now.items c.requires.last fits (omega (arith, ap length is, c.is_full.ensures.room c.if-not-is_full.true))
     (λ none. absurd (page_some c.args.num c.args.pages.now.items (c.page_of-at.result - 1) (subst (λ k. IsPageOf c.args.num k c.args.pages.now.items) next at) none))
 
--- the page before is full, or there is none
+-- the page before is full, or there is no page before
 full_before : (c : goal.Joined-else-at-gt0) → c.page_of-at.result < length c.args.pages.now.items → 16 ≤ before 16 c.page_of-at.result c.args.pages.now.items
 full_before c within = elim c.else-at-gt0.branch [
   | else-at-gt0-via-then-at-gt0+else-not-is_full w ↦

@@ -2,7 +2,8 @@ use Rattle.std.proofs.Common.{◌≡◌, ◌+◌, ◌*◌, ◌≤◌, drop}
 use Rattle.lra_forest.specs.Pages.{weight_behind, weight_in}
 use Rattle.lra_forest.proofs.pages.weight_of.Given as goal
 
--- those so far but for the last with records, and from there the pages that are left
+-- the weight so far, except for the last page with records, and from there on that of the pages
+-- that are left
 abbrev pub invariant-loop-page : goal.invariant-loop-page
 invariant-loop-page l = record {
   few : l.weight ≤ l.page-index * 32;

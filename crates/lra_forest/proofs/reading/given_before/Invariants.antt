@@ -2,7 +2,7 @@ use Rattle.std.proofs.Common.{◌≡◌, ◌≤◌, ◌+◌, ◌&&◌, drop, fil
 use Rattle.lra_facts.specs.Sets.{gives_number, member_number}
 use Rattle.lra_forest.proofs.reading.given_before.Given as goal
 
--- with those that are left it comes to all
+-- the count so far, with the facts left, is the count of all
 abbrev pub invariant-loop-fact : goal.invariant-loop-fact
 invariant-loop-fact l = record {
   counted : l.before + length (filter (λ f. gives_number l.id f.body && nat_lt f.num l.num) (drop l.fact-index l.facts)) + 1 ≡ member_number l.facts l.id l.num;

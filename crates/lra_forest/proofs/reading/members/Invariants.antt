@@ -3,7 +3,7 @@ use Rattle.lra_forest.specs.Gathering.{IsRecordable}
 use Rattle.lra_forest.specs.Records.{givers, member_by, members_of}
 use Rattle.lra_forest.proofs.reading.members.Given as goal
 
--- with those after the last they are all
+-- the members so far, with those after the last one, are all
 abbrev pub invariant-places : goal.invariant-places
 invariant-places l = record {
   counted : length l.members ≡ l.counter;

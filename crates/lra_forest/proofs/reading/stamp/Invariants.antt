@@ -2,6 +2,6 @@ use Rattle.std.proofs.Common.{◌≡◌, max, drop}
 use Rattle.lra_forest.specs.Records.{stamp}
 use Rattle.lra_forest.proofs.reading.stamp.Given as goal
 
--- with what is left it comes to the greatest of all
+-- the greatest so far, with the facts left, is the greatest of all
 abbrev pub invariant-loop-fact : goal.invariant-loop-fact
 invariant-loop-fact l = max l.greatest (stamp (drop l.fact-index l.facts) l.id l.node) ≡ stamp l.facts l.id l.node

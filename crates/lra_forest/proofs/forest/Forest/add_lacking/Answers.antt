@@ -12,7 +12,7 @@ is_pushed c =
     pushed c.args.self.now.home c.args.heard.now.num c.in_ok-copied.field-0 c.args.news.now.records
     (ap (λ (r : Record). r.home) c.in_ok-copied.ensures ∙ c.requires.heard) (ap (λ (r : Record). r.num) c.in_ok-copied.ensures) c.requires.order c.requires.last
 
--- it changes nothing, and isn't told
+-- the record changes nothing, and is not told
 pub returns-then-knows-clause-told : goal.returns-then-knows-clause-told
 returns-then-knows-clause-told c =
     inr (none_has c.args.self.now.home c.args.heard.now.num c.args.news.now.records c.requires.last, c.knows.ensures c.if-knows.true)

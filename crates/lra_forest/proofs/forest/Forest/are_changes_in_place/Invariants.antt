@@ -3,7 +3,7 @@ use Rattle.std.specs.List.{AllByRecursion}
 use Rattle.lra_forest.specs.Shape.{IsInPlace, found_at, records_after}
 use Rattle.lra_forest.proofs.forest.Forest.are_changes_in_place.Given as goal
 
--- all have their place if those have that are left, and only then. Each that is left is found
+-- all have their place exactly if those that are left have theirs. Each that is left is found
 abbrev pub invariant-loop-record : goal.invariant-loop-record
 invariant-loop-record l =
     let after = records_after l.changes l.self in

@@ -4,7 +4,8 @@ use Rattle.lra_facts.specs.Lists.{In}
 use Rattle.lra_forest.specs.Shape.{IsInPlace, is_untouched, records_after}
 use Rattle.lra_forest.proofs.forest.Forest.are_untouched_in_place.Given as goal
 
--- all that stay have their place if those have that are left, and only then. Each that is left is one of the home's
+-- all that stay have their place exactly if those that are left have theirs. Each that is left is
+-- one of the home
 abbrev pub invariant-loop-record : goal.invariant-loop-record
 invariant-loop-record l =
     let those = AllByRecursion (λ r. is_untouched l.changes r ≡ true → IsInPlace l.front l.self.home (records_after l.changes l.self) r.num r) in

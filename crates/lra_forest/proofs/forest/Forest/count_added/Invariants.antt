@@ -3,7 +3,7 @@ use Rattle.lra_forest.specs.RecordMerges.{without}
 use Rattle.lra_forest.proofs.ChangedCounts.{is_added}
 use Rattle.lra_forest.proofs.forest.Forest.count_added.Given as goal
 
--- those so far that are added, and those of the records that are left
+-- the records added so far, and those to be added of the records that are left
 abbrev pub invariant-loop-record : goal.invariant-loop-record
 invariant-loop-record l =
     let added = is_added l.self.home (without l.removed l.self.records) in

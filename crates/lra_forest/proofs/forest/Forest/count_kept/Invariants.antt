@@ -2,7 +2,7 @@ use Rattle.std.proofs.Common.{◌≡◌, ◌+◌, ◌≤◌, length}
 use Rattle.lra_forest.specs.RecordMerges.{without}
 use Rattle.lra_forest.proofs.forest.Forest.count_kept.Given as goal
 
--- those so far that stay, and those of the records that are left
+-- the records kept so far, and those to be kept of the records that are left
 abbrev pub invariant-loop-record : goal.invariant-loop-record
 invariant-loop-record l = record {
   few : l.count + length l.record-iterator ≤ length l.self.records;

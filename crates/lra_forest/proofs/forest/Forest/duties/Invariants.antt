@@ -3,7 +3,7 @@ use Rattle.lra_forest.specs.Owings.{IsLastRoot, owed_of}
 use Rattle.lra_forest.specs.Shape.{found_at}
 use Rattle.lra_forest.proofs.forest.Forest.duties.Given as goal
 
--- with those of the records that are left it comes to all
+-- what was owed so far, with what the records left owe, is all
 abbrev pub invariant-loop-kept : goal.invariant-loop-kept
 invariant-loop-kept l =
     let owed = owed_of l.errand l.self.home (found_at l.self.home l.self.records) in

@@ -4,6 +4,6 @@ use Rattle.lra_forest.specs.Shape.{records_after}
 use Rattle.lra_forest.proofs.ShapeOfAHome.{IsThere}
 use Rattle.lra_forest.proofs.forest.Forest.has_nested.Given as goal
 
--- those so far are there
+-- the nested LRAs so far are there
 abbrev pub invariant-loop-member : goal.invariant-loop-member
 invariant-loop-member l = AllByRecursion (IsThere l.self.home (records_after l.changes l.self)) (take l.member-index l.members)

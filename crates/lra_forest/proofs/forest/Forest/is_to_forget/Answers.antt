@@ -10,7 +10,7 @@ use Rattle.lra_forest.specs.Shape.{found_at}
 use Rattle.lra_forest.proofs.ToldByChains.{both_false, both_true, to_forget_is}
 use Rattle.lra_forest.proofs.forest.Forest.is_to_forget.Goals as goal
 
--- the answer at the record and the participant that were found
+-- the answer for the record and the participant that were found
 answered : (home own : ℕ) (records : List Record) (num m : ℕ) (r : Record) (p : ParticipantRecord) (b : Bool) → home ≡ own → found_at home records num ≡ Some r → participant_at (numbered r.members m) ≡ Some p
     → b ≡ (is_over_at (found_at own records) r.num && owes (forgetting_at (found_at own records) r) p)
     → Ok b ≡ answered_of (is_some (found_at home records num)) (is_some (participant_of (found_at home records) num m)) (is_owed_at (found_at home records) num m)

@@ -5,6 +5,6 @@ use Rattle.lra_forest.specs.Said.{is_under_at, records_up}
 use Rattle.lra_forest.specs.Shape.{found_at}
 use Rattle.lra_forest.proofs.forest.Forest.is_under.Given as goal
 
--- it is met where it is among those that are left
+-- the LRA is met if it is among those that are left
 abbrev pub invariant-loop : goal.invariant-loop
 invariant-loop l = let at = found_at l.self.home l.self.records in is_under_at at l.above l.num ≡ list_any (λ (r : Record). r.num == l.above) (records_up (8 - l.counter) at l.at)

@@ -4,7 +4,7 @@ use Rattle.lra_forest.specs.Said.{least_owed_of}
 use Rattle.lra_forest.specs.Shape.{found_at}
 use Rattle.lra_forest.proofs.forest.Forest.least_forget_duty.Given as goal
 
--- none of those so far is to be told
+-- no record so far is to be told
 abbrev pub invariant-loop-kept : goal.invariant-loop-kept
 invariant-loop-kept l =
     let at = found_at l.self.home l.self.records in

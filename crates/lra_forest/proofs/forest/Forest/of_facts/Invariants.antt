@@ -4,7 +4,7 @@ use Rattle.lra_facts.specs.Sets.{IsNumbered}
 use Rattle.lra_forest.proofs.RecordsSoFar.{IsMade}
 use Rattle.lra_forest.proofs.forest.Forest.of_facts.Given as goal
 
--- the records are those of the begins so far
+-- the records so far are those of the begins so far
 abbrev pub invariant-loop-fact : goal.invariant-loop-fact
 invariant-loop-fact l = record {
   made : IsMade l.nodes l.home l.facts (take l.fact-index l.facts) l.forest;

@@ -5,7 +5,7 @@ use Rattle.lra_forest.specs.Said.{records_up}
 use Rattle.lra_forest.specs.Shape.{found_at}
 use Rattle.lra_forest.proofs.forest.Forest.root_met.Given as goal
 
--- its root is among those that are left
+-- the root is among the LRAs that are left
 abbrev pub invariant-loop : goal.invariant-loop
 invariant-loop l =
     let at = found_at l.self.home l.self.records in

@@ -3,7 +3,7 @@ use Rattle.lra_forest.specs.Said.{ids_below}
 use Rattle.lra_forest.specs.Shape.{found_at}
 use Rattle.lra_forest.proofs.forest.Forest.tree.Given as goal
 
--- those so far, and those of the records that are left
+-- the LRAs so far, and those of the records that are left
 abbrev pub invariant-loop-kept : goal.invariant-loop-kept
 invariant-loop-kept l =
     let at = found_at l.self.home l.self.records in
