@@ -16,12 +16,12 @@ use Rattle.lra_facts.specs.declared.command.Command.TheVariants.{Begin as BeginA
 use Rattle.lra_history.specs.Replies.{by_facts, gone_by, stranger_by, inactive_by, unasked_by, full_by, deep_by, crowded_by, early_by, Accepted, is_known, judge, judged, nested_by, refusal_of, running_by, unforgotten_by, unowed_by, untold_by}
 use Rattle.lra_history.proofs.Basics.{equal_from, less_by, open_first, passed}
 
--- the front counts l, and the set holds it
+-- the front covers l, and the set holds it
 pub record IsHere (S : List Fact) (v : List ℕ) (l : Id) : Type 0 where
   pub covered : is_covered v l ≡ true
   pub held : is_held S l ≡ true
 
--- it is also of this node, and wants nothing
+-- l is also of this node, and wants nothing
 pub record IsActiveHere (S : List Fact) (v : List ℕ) (node : ℕ) (l : Id) : Type 0 where
   pub covered : is_covered v l ≡ true
   pub held : is_held S l ≡ true
@@ -40,7 +40,7 @@ IsGiven S v node (ForgotAsked l m) = IsHere S v l × (is_participant S l m ≡ t
 IsGiven S v node (ToldAsked l m) = IsHere S v l × (is_participant S l m ≡ true) × (is_after_duty S l m ≡ true) × (has_told S l m ≡ false)
 IsGiven S v node (PurgeAsked l) = IsHere S v l × (l.home ≡ node) × (is_root S l ≡ true) × (is_ended S l ≡ true) × (least_forget S l ≡ None) × (least_untold S l ≡ None)
 
--- a command that is accepted meets no refusal, is not known, and finds a number left
+-- a command that is accepted meets no refusal, is not known yet, and finds a number left
 accepted_when : (o : Option Refusal) (known : Bool) (limit : Option Refusal) → judged o known limit ≡ Accepted → (o ≡ None) × (known ≡ false) × (limit ≡ None)
 accepted_when (Some r) known limit e = absurd cc
 accepted_when None true limit e = absurd cc
@@ -163,7 +163,7 @@ given S v node (PurgeAsked l) e new =
 pub lawful_gives : (S : List Fact) (v : List ℕ) (node : ℕ) (c : Command) → judge S v node c ≡ Accepted → IsGiven S v node c
 lawful_gives S v node c e = let t = accepted_when (refusal_of S v node c) (is_known S c) (spent v node) e in given S v node c t.0 t.1
 
--- and it has a number left
+-- and the node has a number left
 pub number_left : (S : List Fact) (v : List ℕ) (node : ℕ) (c : Command) → judge S v node c ≡ Accepted → count v node < last_number
 number_left S v node c e =
     let t = accepted_when (refusal_of S v node c) (is_known S c) (spent v node) e in

@@ -17,22 +17,22 @@ use Rattle.lra_facts.specs.Sets.{begins, chain_within, gives_number, is_begun, i
 use Rattle.lra_forest.specs.Records.{is_about, is_named, nodes_to}
 use Rattle.lra_forest.proofs.Bools.{and_left}
 
--- the elements of two lists put together are those of the first
+-- the elements of the first list are elements of both lists put together
 pub in_left : {X : Type 0} (xs ys : List X) (x : X) → In x xs → In x (xs ++ ys)
 in_left [] ys x m = absurd m
 in_left (y ∷ xs) ys x (inl s) = inl s
 in_left (y ∷ xs) ys x (inr m) = inr (in_left xs ys x m)
 
--- and those of the second
+-- and so are those of the second
 pub in_right : {X : Type 0} (xs ys : List X) (x : X) → In x ys → In x (xs ++ ys)
 in_right [] ys x m = m
 in_right (y ∷ xs) ys x m = inr (in_right xs ys x m)
 
--- what is held is begun
+-- an LRA that is held was begun
 pub held_begun : (S : List Fact) (l : Id) → is_held S l ≡ true → is_begun S l ≡ true
 held_begun S l e = and_left (is_begun S l) _ e
 
--- what a test of two numbers says
+-- what a passed test for equal numbers means
 pub equal_from : (a b : ℕ) → (a == b) ≡ true → a ≡ b
 equal_from a b e = grind (arith, nat_tests)
 
@@ -40,19 +40,19 @@ equal_from a b e = grind (arith, nat_tests)
 pub equal_itself : (a : ℕ) → (a == a) ≡ true
 equal_itself a = grind (arith, nat_tests)
 
--- an outcome is greater than none
+-- the greater of an outcome and `None` is the outcome
 pub greater_none : (o : Option Outcome) → greater o None ≡ o
 greater_none None = refl
 greater_none (Some Busy) = refl
 greater_none (Some Done) = refl
 greater_none (Some Failed) = refl
 
--- where there is no first refusal, there is none
+-- if the first refusal of a list is `None`, none of them refuses
 pub open_first : (o : Option Refusal) (rest : List (Option Refusal)) → first (o ∷ rest) ≡ None → (o ≡ None) × (first rest ≡ None)
 open_first None rest e = (refl, e)
 open_first (Some r) rest e = absurd cc
 
--- where a test refuses nothing, it holds
+-- if a test refuses nothing, it holds
 pub passed : (b : Bool) (r : Refusal) → unless b r ≡ None → b ≡ true
 passed true r e = refl
 passed false r e = absurd cc
@@ -71,11 +71,11 @@ at_most a b = by (nat_le a b) refl
     by true e = inl (less a b e)
     by false e = inr (more a b e)
 
--- what a test of less says
+-- what a passed test for less means
 pub less_by : (a b : ℕ) → nat_lt a b ≡ true → a < b
 less_by a b e = grind (arith, nat_tests)
 
--- two numbers are the same or not
+-- two numbers are either the same or not
 pub same_or_not : (a b : ℕ) → (a ≡ b) ⊎ (a ≡ b → ⊥)
 same_or_not a b = by (a == b) refl
   where
@@ -89,7 +89,7 @@ same_or_not a b = by (a == b) refl
     by true e = inl (same a b e)
     by false e = inr (λ s. let yes : (a == b) ≡ true = other a b s in cc)
 
--- there are as many nodes
+-- the list of the nodes up to n has n elements
 pub length_nodes : (n : ℕ) → length (nodes_to n) ≡ n
 length_nodes zero = refl
 length_nodes (suc n) = omega (arith, length-append (nodes_to n) (suc n ∷ []), length_nodes n)
@@ -107,7 +107,7 @@ both_true a b e f = rw (e, f) refl
 pub covered_le : (v : List ℕ) (l : Id) → is_covered v l ≡ true → l.num ≤ count v l.home
 covered_le v l e = grind (arith, nat_tests)
 
--- a test that fails wherever it would give a contradiction
+-- a test is false if its being true gives a contradiction
 pub false_from : (b : Bool) → (b ≡ true → ⊥) → b ≡ false
 false_from true h = absurd (h refl)
 false_from false h = refl
@@ -123,7 +123,7 @@ giver_names l (Told q n) e = absurd cc
 giver_names l (Leave q n) e = absurd cc
 giver_names l (Purge q) e = absurd cc
 
--- so does one that decides l
+-- so does a fact that decides l
 pub decision_names : (l : Id) (v : Verdict) (body : Body) → is_decision l v body ≡ true → is_named l body ≡ true
 decision_names l v (Decide q w) e = and_left (same_id q l) _ e
 decision_names l v (Begin p d) e = absurd cc

@@ -1,4 +1,4 @@
--- closed sets of lawful histories
+-- closed sets of lawful histories are settled
 use Rattle.std.proofs.Common.{◌≡◌, inl, inr, ◌≤◌, ◌<◌, ◌+◌, ◌-◌, ◌&&◌, ℕ, zero, suc, List, [], ◌∷◌, ◌++◌, refl, sym, ap, subst, ◌∙◌, Bool, true, false, cond, arith, filter, length, map, get_or, nat_le, nat_lt}
 use Rattle.std.proofs.lemmas.Bool.Decides.{nat_tests}
 use Rattle.std.proofs.lemmas.List.{map-append}
@@ -29,13 +29,13 @@ use Rattle.lra_history.proofs.Basics.{in_left, in_right}
 abbrev pub fact_of : Made → Fact
 fact_of e = e.fact
 
--- the entries of a node are its facts, with numbers from this one on
+-- the entries of a node are its facts, numbered from `num` on
 pub made_by_at : (node num : ℕ) (es : List Entry) (e : Made) → In e (made_by node num es) → (e.fact.origin ≡ node) × (num ≤ e.fact.num)
 made_by_at node num [] e m = absurd m
 made_by_at node num (x ∷ es) e (inl s) = (ap (λ (y : Made). y.fact.origin) s, omega (arith, ap (λ (y : Made). y.fact.num) s))
 made_by_at node num (x ∷ es) e (inr m) = let rest = made_by_at node (num + 1) es e m in (rest.0, omega (arith, rest.1))
 
--- and of all nodes from this one on
+-- and the same for the entries of all nodes from `node` on
 pub made_from_at : (node : ℕ) (h : History) (e : Made) → In e (made_from node h) → (node ≤ e.fact.origin) × (1 ≤ e.fact.num)
 made_from_at node [] e m = absurd m
 made_from_at node (es ∷ h) e m = elim (in_append (made_by node 1 es) (made_from (node + 1) h) e m) [
@@ -65,7 +65,7 @@ entry_at h node num some one bound =
     let found = entry_from 1 (node - 1) num h one bound in
     (found.0, found.1, omega (arith, found.2, some), found.3)
 
--- No two facts have one origin and one number
+-- No two facts have the same origin and the same number
 
 once_append : (xs ys : List Fact) → AreOnce xs → AreOnce ys → ((x y : Fact) → In x xs → In y ys → x.origin ≡ y.origin → x.num ≡ y.num → ⊥) → AreOnce (xs ++ ys)
 once_append [] ys a b apart = b
@@ -112,11 +112,11 @@ facts_once h v = once_filter (is_counted v) (map fact_of (made h)) (once_from 1 
 
 -- The set of a front
 
--- a front reaches the number of each fact that it counts
+-- a front that counts a fact reaches its number
 pub counted_le : (v : List ℕ) (f : Fact) → is_counted v f ≡ true → f.num ≤ count v f.origin
 counted_le v f e = grind (arith, nat_tests)
 
--- and counts each whose number it reaches
+-- and a front counts each fact whose number it reaches
 pub le_counted : (v : List ℕ) (f : Fact) → f.num ≤ count v f.origin → is_counted v f ≡ true
 le_counted v f h = grind (arith, nat_tests)
 
@@ -127,11 +127,11 @@ entry_of h v f m =
     let found = map_in fact_of (made h) f there.0 in
     (found.0, found.1, found.2, counted_le v f there.1)
 
--- and the other way round
+-- and conversely
 pub in_facts : (h : History) (v : List ℕ) (e : Made) → In e (made h) → e.fact.num ≤ count v e.fact.origin → In e.fact (facts h v)
 in_facts h v e m bound = in_filter (is_counted v) (map fact_of (made h)) e.fact (in_map fact_of (made h) e m) (le_counted v e.fact bound)
 
--- a front that counts no more has a part of the set
+-- a front that counts no more counts a part of the set
 pub facts_inside : (h : History) (u v : List ℕ) → IsBelow u v → IsInside (facts h u) (facts h v)
 facts_inside h u v below f m =
     let there = filter_in (is_counted u) (map fact_of (made h)) f m in
@@ -157,7 +157,7 @@ closed_counted h v closed =
 abbrev asked : Made → Command
 asked e = command_of e.fact.body
 
--- an entry is the next fact of its node over what its front counts
+-- an entry is the next fact of its node over the facts that its front counts
 next_is : (h : History) (e : Made) → IsLawfulEntry h e → e.fact ≡ next_fact (facts h e.front) e.front e.fact.origin (asked e)
 next_is h e entry =
     ap (λ (n : ℕ). record { origin = e.fact.origin; num = n; body = e.fact.body }) (sym entry.own)
@@ -187,7 +187,7 @@ closed_whole h lawful v closed =
     let asked_named : is_named l (body_for J (asked e.0)) ≡ true = subst (λ (x : Fact). is_named l x.body ≡ true) (e.2 ∙ next_is h e.0 entry) named in
     begun_inside J (facts h v) (facts_inside h e.0.front v (closed.kept e.0 e.1 bound)) l (named_new J e.0.front e.0.fact.origin (asked e.0) l entry.lawful.accepted asked_named))
 
--- the number that an entry gives counts the givers that its front counts
+-- the member number that an entry gives counts the givers that its front counts
 next_number : (h : History) → IsLawful h → (v : List ℕ) → IsClosed h v → (e : Made) → In e (made h) → e.fact.num ≤ count v e.fact.origin → (l : Id) → gives_number l e.fact.body ≡ true → member_number (facts h v) l (count e.front e.fact.origin + 1) ≡ numbers_given (facts h e.front) l + 1
 next_number h lawful v closed e m bound l gives =
     let n = count e.front e.fact.origin + 1 in
@@ -218,7 +218,7 @@ next_number h lawful v closed e m bound l gives =
             subst (λ (o : ℕ). (nat_le f.num (count v o) && (true && nat_lt f.num (count e.front e.fact.origin + 1))) ≡ (nat_le f.num (count e.front o) && true)) (sym same)
             (alike f.num (count e.front e.fact.origin) (count v e.fact.origin) (closed.kept e m bound e.fact.origin))
 
--- joins have the numbers of their places
+-- joins have the member numbers of their places
 join_number : (h : History) → IsLawful h → (v : List ℕ) → IsClosed h v → (f : Fact) (l : Id) (m : ℕ) (links : Links) → In f (facts h v) → f.body ≡ Join l m links → m ≡ member_number (facts h v) l f.num
 join_number h lawful v closed f l m links k joins =
     let e = entry_of h v f k in

@@ -1,4 +1,4 @@
--- fronts that count sets, with one more fact and of nothing
+-- the front that counts a set, with one more fact, and for the empty set
 use Rattle.std.proofs.Common.{◌≡◌, ◌≢◌, ◌⊎◌, inl, inr, ◌≤◌, ◌<◌, ◌+◌, ◌-◌, ℕ, zero, suc, List, [], ◌∷◌, ◌++◌, refl, sym, ap, subst, ◌∙◌, arith, length, replicate, map, get_or, get_or-set_other, get_or-set_same}
 use Rattle.std.proofs.lemmas.List.{get_or-replicate, length-replicate}
 use Rattle.lra_id.specs.Fronts.{count}
@@ -13,13 +13,13 @@ use Rattle.lra_facts.specs.declared.command.Command.{Command}
 use Rattle.lra_history.proofs.StaysSettled.{either_more, in_more, new_more}
 use Rattle.lra_history.proofs.Basics.{length_nodes, same_or_not}
 
--- A front that counts one more of a node
+-- A front that counts one more fact of a node
 
--- it counts that one
+-- the raised front counts one more of that node
 pub raised_here : (v : List ℕ) (node : ℕ) → 1 ≤ node → node ≤ length v → count (raised v node) node ≡ count v node + 1
 raised_here v node a b = let lt : node - 1 < length v = omega arith in rw get_or-set_same refl
 
--- and no more of the others
+-- and no more of the other nodes
 pub raised_else : (v : List ℕ) (node k : ℕ) → 1 ≤ node → 1 ≤ k → (k ≡ node → ⊥) → count (raised v node) k ≡ count v k
 raised_else v node k a b n = let ne : k - 1 ≢ node - 1 = (λ s. n (omega (arith, s))) in rw get_or-set_other refl
 
@@ -29,7 +29,7 @@ at_most_raised v node k some there one = elim (same_or_not k node) [
   | inr n ↦ omega (arith, raised_else v node k some one n)
 ]
 
--- of the raised front, the number is the new one or was counted before
+-- a number that the raised front counts is the new one or was counted before
 new_or_old : (v : List ℕ) (node k num : ℕ) → 1 ≤ node → node ≤ length v → 1 ≤ k → num ≤ count (raised v node) k → ((k ≡ node) × (num ≡ count v node + 1)) ⊎ (num ≤ count v k)
 new_or_old v node k num some there one bound = elim (same_or_not k node) [
   | inl s ↦ elim (same_or_not num (count v node + 1)) [
@@ -42,7 +42,7 @@ new_or_old v node k num some there one bound = elim (same_or_not k node) [
     lesser : (a b c : ℕ) → a ≤ b + 1 → (a ≡ b + 1 → ⊥) → b ≡ c → a ≤ c
     lesser a b c h n e = omega arith
 
--- the set with a node's next fact is counted by the front with one more of that node
+-- the set with a node's next fact is counted by the front that counts one more of that node
 pub counted_with : (f : Fact) (S T : List Fact) (v : List ℕ) (node : ℕ) (c : Command) → IsCounted S v → 1 ≤ node → node ≤ length v → f ≡ next_fact S v node c → IsMore f S T → IsCounted T (raised v node)
 counted_with f S T v node c counted some there is more =
     record {
@@ -70,7 +70,7 @@ none_after : {X : Type 0} (xs : List X) → xs ≡ xs ++ []
 none_after [] = refl
 none_after (x ∷ xs) = ap (λ ys. x ∷ ys) (none_after xs)
 
--- what a node enters is one more fact
+-- the fact that a node enters is one more fact of its set
 pub more_entered : (S : List Fact) (v : List ℕ) (node : ℕ) (c : Command) → IsCounted S v → 1 ≤ node → IsMore (next_fact S v node c) S (entered S v node c)
 more_entered S v node c counted some =
     record {
@@ -106,7 +106,7 @@ no_purges (x ∷ xs) = ap (λ (ys : List ℕ). 0 ∷ ys) (no_purges xs)
 no_records : (nodes home : ℕ) → AreRecords nodes [] home []
 no_records nodes home = record { order = record { homes = tt; ascending = tt }; stands = λ l e. refl }
 
--- and with no records it stands for the empty set
+-- and with no records it is a view that stands for the empty set
 pub empty_stands : (n : ℕ) → StandsFor [] (record { front = replicate n 0; purges = replicate n 0; records = replicate n [] })
 empty_stands n =
     let zeros : List ℕ = replicate n 0 in

@@ -1,4 +1,4 @@
--- what is begun is covered by the front, and what is found of an LRA is of its home
+-- LRAs that are begun are covered by the front, and what is found of an LRA is of its home
 use Rattle.std.proofs.Common.{◌≡◌, ◌≤◌, ◌<◌, ◌-◌, ◌&&◌, ℕ, zero, suc, List, [], ◌∷◌, refl, sym, ap, ◌∙◌, Bool, true, false, cond, arith, Some, length, slice_index, find, nat_le}
 use Rattle.std.proofs.lemmas.Bool.Decides.{nat_tests}
 use Rattle.lra_id.specs.Ids.{Id, same_id}
@@ -24,7 +24,7 @@ begun_here S l e = let found = any_gives (begins l) S e in (found.0, found.1, ho
     num f true e = grind (arith, nat_tests, e)
     num f false e = absurd cc
 
--- what is begun is covered
+-- an LRA that is begun is covered
 pub begun_covered : (S : List Fact) (front : List ℕ) (l : Id) → IsCounted S front → is_begun S l ≡ true → (1 ≤ l.num) × (l.num ≤ count front l.home)
 begun_covered S front l counted e =
     let found = begun_here S l e in
@@ -38,7 +38,7 @@ beyond_front [] place e = refl
 beyond_front (n ∷ front) zero e = absurd (omega (arith, e))
 beyond_front (n ∷ front) (suc place) e = beyond_front front place (omega (arith, e))
 
--- what a settled set is
+-- a settled set is nested
 pub nested_settled : (S : List Fact) → IsSettled S → IsNested S
 nested_settled S settled = record { once = settled.seated.once; shallow = settled.shallow }
 
@@ -53,7 +53,7 @@ found_of l (q ∷ rs) r e = by (found_of l rs r) (is_of l q) refl e
     by rest true t e = let same : q ≡ r = cc in ap (λ (x : Record). x.home) (sym same) ∙ of_is l q t
     by rest false t e = rest e
 
--- what is begun is of one of the nodes
+-- the home of a begun LRA is one of the nodes
 pub begun_within : (S : List Fact) (front : List ℕ) (l : Id) → IsCounted S front → is_begun S l ≡ true → l.home ≤ length front
 begun_within S front l counted e = by (nat_le l.home (length front)) refl
   where

@@ -1,4 +1,4 @@
--- what a home enters of an LRA that wants something, and how often an LRA is decided
+-- what a home enters for an LRA that already wants something, and that an LRA is decided once
 use Rattle.std.proofs.Common.{◌≡◌, ◌⊎◌, inl, inr, ◌≤◌, ◌<◌, ◌+◌, ℕ, List, [], ◌∷◌, refl, sym, ap, subst, ◌∙◌, Bool, true, false, cond, arith, Some, None}
 use Rattle.std.specs.List.{list_any}
 use Rattle.lra_id.specs.Ids.{Id, same_id}
@@ -53,7 +53,7 @@ made_from_once node (es ∷ h) d e a b o s = elim (in_append (made_by node 1 es)
 pub made_once : (h : History) (d e : Made) → In d (made h) → In e (made h) → d.fact.origin ≡ e.fact.origin → d.fact.num ≡ e.fact.num → d ≡ e
 made_once h d e a b o s = made_from_once 1 h d e a b o s
 
--- so they name one fact, in whatever sets
+-- so they name one fact, whatever the sets are
 fact_once : (h : History) (v w : List ℕ) (f g : Fact) → In f (facts h v) → In g (facts h w) → f.origin ≡ g.origin → f.num ≡ g.num → f ≡ g
 fact_once h v w f g a b o n =
     let d = entry_of h v f a in
@@ -62,11 +62,11 @@ fact_once h v w f g a b o n =
     let numbers : d.0.fact.num ≡ e.0.fact.num = ap (λ (x : Fact). x.num) (sym d.2) ∙ n ∙ ap (λ (x : Fact). x.num) e.2 in
     d.2 ∙ ap (λ (x : Made). x.fact) (made_once h d.0 e.0 d.1 e.1 origins numbers) ∙ sym e.2
 
--- the entry of a fact of a set, which its front counts
+-- the entry of a fact of a set; the set's front counts it
 pub counted_entry : (h : History) (v : List ℕ) (f : Fact) → In f (facts h v) → (e : Made) × In e (made h) × (f ≡ e.fact) × (e.fact.num ≤ count v e.fact.origin)
 counted_entry h v f m = let e = entry_of h v f m in (e.0, e.1, e.2, subst (λ (x : Fact). x.num ≤ count v x.origin) e.2 e.3)
 
--- What is entered only where an LRA wants nothing
+-- What is entered only if an LRA wants nothing
 
 -- a join, a leave or a decision of d
 abbrev pub asks_active : Id → Body → Bool
@@ -85,7 +85,7 @@ active_given S v node (Forgot l m) d a e = absurd cc
 active_given S v node (Told l m) d a e = absurd cc
 active_given S v node (Purge l) d a e = absurd cc
 
--- it is entered by the home of d, over a set that holds d and where d wants nothing
+-- such an entry is made by the home of d, over a set that holds d and in which d wants nothing
 pub entered_active : (h : History) → IsLawful h → (e : Made) → In e (made h) → (d : Id) → asks_active d e.fact.body ≡ true → IsActiveHere (facts h e.front) e.front e.fact.origin d
 entered_active h lawful e m d asks =
     active_given (facts h e.front) e.front e.fact.origin e.fact.body d
@@ -102,14 +102,14 @@ decision_asks d verdict (Forgot l m) e = absurd cc
 decision_asks d verdict (Told l m) e = absurd cc
 decision_asks d verdict (Purge l) e = absurd cc
 
--- the home of an LRA enters what asks for it
+-- facts that ask for d to be active are entered by its home
 pub active_home : (h : History) → IsLawful h → (v : List ℕ) (f : Fact) (d : Id) → In f (facts h v) → asks_active d f.body ≡ true → f.origin ≡ d.home
 active_home h lawful v f d m asks =
     let e = entry_of h v f m in
     let active = entered_active h lawful e.0 e.1 d (subst (λ (x : Fact). asks_active d x.body ≡ true) e.2 asks) in
     ap (λ (x : Fact). x.origin) e.2 ∙ sym active.home
 
--- and a closed set that has it has begun the LRA
+-- and a closed set that has such a fact has begun the LRA
 pub active_begun : (h : History) → IsLawful h → (v : List ℕ) → IsClosed h v → (f : Fact) (d : Id) → In f (facts h v) → asks_active d f.body ≡ true → is_begun (facts h v) d ≡ true
 active_begun h lawful v closed f d m asks =
     let e = counted_entry h v f m in
@@ -153,7 +153,7 @@ some_wanted true k v e = inl (cc, refl)
 some_wanted false true v e = inr (cc, refl)
 some_wanted false false v e = absurd cc
 
--- what wants nothing has no decision in its chain
+-- an LRA that wants nothing has no decision in its chain
 pub undecided : (S : List Fact) (l : Id) → want S l ≡ None → (v : Verdict) (a : Id) → In a (chain S l) → is_decided S v a ≡ true → ⊥
 undecided S l e Cancel a m d =
     let none = none_wanted (list_any (is_decided S Cancel) (chain S l)) (list_any (is_decided S Close) (chain S l)) e in
@@ -164,7 +164,7 @@ undecided S l e Close a m d =
     let some = any_from (is_decided S Close) (chain S l) a m d in
     let wrong : true ≡ false = sym some ∙ none.1 in cc
 
--- what is wanted was decided of one of the chain
+-- what an LRA wants was decided for an LRA of its chain
 pub decided_by : (S : List Fact) (l : Id) (v : Verdict) → want S l ≡ Some v → (a : Id) × In a (chain S l) × (is_decided S v a ≡ true)
 decided_by S l v e = elim (some_wanted (list_any (is_decided S Cancel) (chain S l)) (list_any (is_decided S Close) (chain S l)) v e) [
   | inl c ↦
@@ -175,13 +175,13 @@ decided_by S l v e = elim (some_wanted (list_any (is_decided S Cancel) (chain S 
       (found.0, found.1, subst (λ x. is_decided S x found.0 ≡ true) (sym c.0) found.2)
 ]
 
--- in a closed set only what is begun is decided
+-- in a closed set, only an LRA that is begun is decided
 decided_begun : (h : History) → IsLawful h → (v : List ℕ) → IsClosed h v → (verdict : Verdict) (l : Id) → is_decided (facts h v) verdict l ≡ true → is_begun (facts h v) l ≡ true
 decided_begun h lawful v closed verdict l e =
     let found = any_gives (λ (f : Fact). is_decision l verdict f.body) (facts h v) e in
     active_begun h lawful v closed found.0 l found.1 (decision_asks l verdict found.0.body found.2)
 
--- and only what is begun wants something
+-- and only an LRA that is begun wants something
 pub wanted_begun : (h : History) → IsLawful h → (v : List ℕ) → IsClosed h v → (l : Id) (verdict : Verdict) → want (facts h v) l ≡ Some verdict → is_begun (facts h v) l ≡ true
 wanted_begun h lawful v closed l verdict e = by (is_begun (facts h v) l) refl
   where
@@ -210,7 +210,8 @@ earlier_counted h lawful v l e m home late f at k =
     let own = (lawful.each e m).own in
     subst (λ (x : Fact). In x (facts h e.front)) (sym d.2) (in_facts h e.front d.0 d.1 (omega (arith, d.3, here, there, own, late)))
 
--- where l wants something in a closed set, its home enters nothing later over a set where an LRA under l wants nothing
+-- if l wants something in a closed set, its home enters nothing later over a set in which an LRA
+-- under l wants nothing
 pub later_wants : (h : History) → IsLawful h → (v : List ℕ) → IsClosed h v → (l : Id) (verdict : Verdict) → want (facts h v) l ≡ Some verdict → (e : Made) → In e (made h) → e.fact.origin ≡ l.home → count v l.home < e.fact.num → (d : Id) → In l (chain (facts h e.front) d) → want (facts h e.front) d ≡ None → ⊥
 later_wants h lawful v closed l verdict wanted e m home late d under none =
     let S = facts h v in
@@ -228,7 +229,8 @@ later_wants h lawful v closed l verdict wanted e m home late d under none =
     let chained : In by.0 (chain J l) = subst (λ (c : List Id). In by.0 c) (same_chain h lawful v e.front closed there l begun still) by.1 in
     undecided J d none verdict by.0 (chain_goes J (closed_settled h lawful e.front there).whole.nested d l by.0 under chained) decided
 
--- So where l wants something in a closed set, that has all joins, leaves and decisions of LRAs under l
+-- So if l wants something in a closed set, that set has all joins, leaves and decisions of LRAs
+-- under l
 pub entered_before : (h : History) → IsLawful h → (v w : List ℕ) → IsClosed h v → IsClosed h w → (l : Id) (verdict : Verdict) → want (facts h v) l ≡ Some verdict → (f : Fact) → In f (facts h w) → (d : Id) → asks_active d f.body ≡ true → In l (chain (facts h w) d) → In f (facts h v)
 entered_before h lawful v w cv cw l verdict wanted f k d asks under =
     let T = facts h w in

@@ -1,4 +1,4 @@
--- elements by their homes
+-- elements sorted by their homes
 use Rattle.std.proofs.Common.{◌≡◌, ◌==◌, ℕ, List, [], ◌∷◌, refl, ap, ◌∙◌, Bool, true, false, arith, filter}
 use Rattle.std.specs.List.{AllByRecursion}
 use Rattle.lra_forest.specs.declared.record.Record.{Record}
@@ -7,7 +7,7 @@ use Rattle.lra_history.proofs.Basics.{equal_from, equal_itself}
 
 -- Elements of one home
 
--- with another test that the elements meet
+-- elements that have a property have every weaker one
 pub all_weaker : {X : Type 0} (P Q : X → Type 0) (xs : List X) → ((x : X) → P x → Q x) → AllByRecursion P xs → AllByRecursion Q xs
 all_weaker P Q [] h all = tt
 all_weaker P Q (x ∷ xs) h all = (h x all.0, all_weaker P Q xs h all.1)
@@ -19,21 +19,21 @@ equal_not a b n = by (a == b) refl
     by true e = absurd (n (equal_from a b e))
     by false e = refl
 
--- all are of this home
+-- all elements are of this home
 pub home_all : {X : Type 0} (h : X → ℕ) (home : ℕ) (xs : List X) → AllByRecursion (λ x. h x ≡ home) xs → filter (λ x. h x == home) xs ≡ xs
 home_all h home [] all = refl
 home_all h home (x ∷ xs) all =
     let here : (h x == home) ≡ true = ap (λ (n : ℕ). n == home) all.0 ∙ equal_itself home in
     rw here (ap (λ zs. x ∷ zs) (home_all h home xs all.1))
 
--- none is of this home
+-- no element is of this home
 pub home_none : {X : Type 0} (h : X → ℕ) (home : ℕ) (xs : List X) → AllByRecursion (λ x. h x ≡ home → ⊥) xs → filter (λ x. h x == home) xs ≡ []
 home_none h home [] all = refl
 home_none h home (x ∷ xs) all = let here = equal_not (h x) home all.0 in rw here (home_none h home xs all.1)
 
 -- Home by home
 
--- no change holds only what changes
+-- an empty change holds only what changes
 pub no_changes : (home : ℕ) (own : List Record) → AreOnlyChanges home own [] []
 no_changes home own = record {
   order = record { homes = tt; ascending = tt };

@@ -1,4 +1,4 @@
--- What is at its end stays there: no later decision changes what it wants.
+-- An LRA that is at its end stays there: no later decision changes what it wants.
 use mathlib.Core.Bool.{not}
 use Rattle.std.proofs.Common.{◌≡◌, ◌⊎◌, inl, inr, ◌≤◌, ◌&&◌, ◌||◌, ℕ, List, refl, sym, ap, subst, ◌∙◌, Bool, true, false, arith, Option, Some, None, is_none, is_some}
 use Rattle.lra_id.specs.Ids.{Id}
@@ -53,14 +53,14 @@ module _ (h : History) (v w : List ℕ) (g : IsGrown h v w) where
       settle Cancel (Some Close) e s le = absurd (omega (arith, le))
       settle Close (Some Cancel) e s le = absurd (root_whole h g.lawful v w g.before g.after r root s e)
 
-  -- and so does an LRA in whose chain such a root is
+  -- and so does an LRA whose chain contains such a root
   root_over : (l r : Id) (x y : Verdict) → want (facts h v) l ≡ Some y → In r (chain (facts h v) l) → is_root (facts h v) r ≡ true → want (facts h v) r ≡ Some x → want (facts h w) l ≡ want (facts h v) l
   root_over l r x y wants chained root wanted =
       let begun = wanted_begun h g.lawful v g.before l y wants in
       let under : In r (chain (facts h w) l) = subst (λ (c : List Id). In r c) (kept_chain h v w g l begun) chained in
       sym (kept_want h v w g r x wanted (root_kept r root x wanted) l begun under)
 
-  -- so does what wants Cancel
+  -- so does an LRA that wants Cancel
   cancel_kept : (l : Id) → want (facts h v) l ≡ Some Cancel → want (facts h w) l ≡ Some Cancel
   cancel_kept l wants =
       let more = wants_more h v w g l (wanted_begun h g.lawful v g.before l Cancel wants) in
@@ -84,14 +84,14 @@ module _ (h : History) (v w : List ℕ) (g : IsGrown h v w) where
   why : (l : Id) → is_at_end (facts h v) l ≡ true → (wants_cancel (want (facts h v) l) ≡ true) ⊎ (is_root_decided (facts h v) l ≡ true)
   why l e = or_cases (wants_cancel (want (facts h v) l)) (is_root_decided (facts h v) l) (and_right (is_ended (facts h v) l) _ e)
 
-  -- no later decision changes what it wants
+  -- no later decision changes what an LRA at its end wants
   pub end_wants : (l : Id) → is_at_end (facts h v) l ≡ true → want (facts h w) l ≡ want (facts h v) l
   end_wants l e = elim (why l e) [
     | inl cancels ↦ let wants = cancel_is (want (facts h v) l) cancels in cancel_kept l wants ∙ sym wants
     | inr decided ↦ let wants = wants_of l e in let it = met l decided in by_root l it.0 wants.0 wants.1 it.1
   ]
 
-  -- a root that wants something does in the greater set too
+  -- a root that wants something wants something in the greater set too
   root_later : (l r : Id) (y : Verdict) → want (facts h v) l ≡ Some y → IsMet l r → is_root_decided (facts h w) l ≡ true
   root_later l r y wants it =
       let root = and_left (is_root (facts h v) r) _ it.1 in
@@ -103,7 +103,7 @@ module _ (h : History) (v w : List ℕ) (g : IsGrown h v w) where
       let chained : In r (chain (facts h w) l) = subst (λ (c : List Id). In r c) (kept_chain h v w g l (wanted_begun h g.lawful v g.before l y wants)) it.0 in
       any_from (λ (a : Id). is_root (facts h w) a && is_some (want (facts h w) a)) (chain (facts h w) l) r chained (both_true _ _ still some)
 
-  -- it is ended in the greater set too, and at its end
+  -- an LRA at its end is ended in the greater set too, and at its end there
   pub end_stays : (l : Id) → is_at_end (facts h v) l ≡ true → is_at_end (facts h w) l ≡ true
   end_stays l e =
       let S = facts h v in

@@ -1,4 +1,5 @@
--- the record that one more fact names: a leave, a report, a forgot or a told of one of its members
+-- the record that one more fact names, if the fact is a leave, a report, a forgot or a told of one
+-- of its members
 use Rattle.std.proofs.Common.{◌≡◌, inl, inr, ◌≤◌, ◌<◌, ◌+◌, ◌-◌, ◌==◌, ◌&&◌, ℕ, zero, suc, List, [], ◌∷◌, refl, sym, ap, subst, ◌∙◌, Bool, true, false, cond, arith, Option, Some, None, filter, map, length, slice_get, nat_lt, is_some}
 use Rattle.std.proofs.lemmas.Bool.Decides.{nat_tests}
 use Rattle.lra_id.specs.Ids.{Id}
@@ -28,7 +29,7 @@ use Rattle.lra_history.proofs.Basics.{greater_none}
 
 -- The numbers with which the participants of an LRA joined
 
--- a join has this member number
+-- the fact is a join with this member number
 abbrev pub HasNumber : ℕ → Body → Type 0
 HasNumber k (Join id m links) = m ≡ k
 HasNumber k (Begin parent deadline) = Unit {0}
@@ -39,7 +40,7 @@ HasNumber k (Forgot id m) = Unit {0}
 HasNumber k (Told id m) = Unit {0}
 HasNumber k (Purge root) = Unit {0}
 
--- the joins are numbered by their places, from k
+-- the joins are numbered by their places, starting at k
 abbrev pub AreNumberedFrom : ℕ → List Fact → Type 0
 AreNumberedFrom k fs = (i : ℕ) (f : Fact) → slice_get fs i ≡ Some f → HasNumber (k + i) f.body
 
@@ -63,9 +64,9 @@ givers_numbered S l seated i f e =
     let place = place_is (givers S l) i f (givers_ascend S l seated) e in
     number_of S l f (1 + i) seated inside.0 inside.1 (omega (arith, number_is S l f.num, place))
 
--- Members of whom one changes
+-- Records of which one member changes
 
--- what stands for the member m changes by g, and no other
+-- what stands for the member m changes by g, and no other member changes
 record IsChanged (S T : List Fact) (l : Id) (m : ℕ) (g : Member → Member) : Type 0 where
   pub nested : (n : ℕ) → g (Nested n) ≡ Nested n
   pub this : (num : ℕ) (q : Id) (links : Links) → member_by T l num (Join q m links) ≡ g (member_by S l num (Join q m links))
@@ -123,7 +124,7 @@ members_changed f S T more seated l m g none some changed =
 
 -- Outcomes
 
--- with one more fact the greater outcome is heard
+-- with one more fact, the greater of the two outcomes is heard
 pub heard_gained : (f : Fact) (S T : List Fact) → IsMore f S T → (l : Id) (m : ℕ) (a : Act) → heard T l m a ≡ greater (heard S l m a) (reported l m a f.body)
 heard_gained f S T more l m a =
     heard_union S (f ∷ []) T (record { left = λ g k. in_more_old f S T more g k; right = λ g k. new g k; only = λ g k. elim (in_more f S T more g k) [ inl s ↦ inr (inl s) | inr o ↦ inl o ] }) l m a
@@ -188,7 +189,7 @@ report_changes f S T more l m act outcome body =
     apart : (k : ℕ) → (k ≡ m → ⊥) → (a : Act) → heard T l k a ≡ heard S l k a
     apart k n a = heard_kept f S T more l k a (let e = number_apart k m n in let own = same_self l in rw (body, own, e) refl)
 
--- a report, at whatever node, of a member whose number was given
+-- a report, by any node, about a member whose number was given
 pub report_record : (f : Fact) (S T : List Fact) → IsMore f S T → IsSettled S → (nodes : ℕ) (l : Id) (m : ℕ) (act : Act) (outcome : Outcome) → f.body ≡ Report l m act outcome → 1 ≤ m → is_begun S l ≡ true → record_of nodes T l ≡ record_after f (record_of nodes S l)
 report_record f S T more settled nodes l m act outcome body some b =
     record_gained f S T more settled (λ p g. absurd (let wrong : gives_number p (Report l m act outcome) ≡ true = rw body at g in cc)) nodes l b (rw body (same_self l))
@@ -296,8 +297,8 @@ told_changes f S T more l m body =
     same : (k : ℕ) → (a : Act) → heard T l k a ≡ heard S l k a
     same k a = heard_kept f S T more l k a (rw body refl)
 
--- a told of a member whose number was given
--- (as `forgot_record`, but for the mark; one lemma for both was not tried)
+-- a told of a member whose number was given (as `forgot_record`, except for the mark; one lemma for
+-- both was not tried)
 pub told_record : (f : Fact) (S T : List Fact) → IsMore f S T → IsSettled S → (nodes : ℕ) (l : Id) (m : ℕ) → f.body ≡ Told l m → 1 ≤ m → is_begun S l ≡ true → record_of nodes T l ≡ record_after f (record_of nodes S l)
 told_record f S T more settled nodes l m body some b =
     record_gained f S T more settled (λ p g. absurd (let wrong : gives_number p (Told l m) ≡ true = rw body at g in cc)) nodes l b (rw body (same_self l))
@@ -328,7 +329,7 @@ filter_fewer p q (x ∷ fs) f i e n = by i (p x) refl (q x) refl (λ j. filter_f
     by (inr j) true g false h rest less = omega (arith, rest j)
     by (inr j) false g c h rest less = rest j
 
--- the number of a participant was given
+-- the number of a participant is one that was given
 pub participant_given : (S : List Fact) (l : Id) (m : ℕ) → IsSeated S → is_participant S l m ≡ true → (1 ≤ m) × (m ≤ numbers_given S l)
 participant_given S l m seated e = by (links_of S l m) refl (and_left (is_some (links_of S l m)) _ e)
   where

@@ -1,4 +1,5 @@
--- the record that one more fact names: a decision, a join, or a begin under it
+-- the record that one more fact names, if the fact is a decision, a join, or a begin of an LRA
+-- nested in it
 use Rattle.std.proofs.Common.{◌≡◌, inl, inr, ◌<◌, ◌+◌, ◌==◌, ◌||◌, ◌&&◌, ℕ, List, [], ◌∷◌, ◌++◌, refl, sym, ap, subst, ◌∙◌, Bool, true, false, cond, arith, Some, None}
 use Rattle.std.specs.List.{list_any}
 use Rattle.lra_id.specs.Ids.{Id, same_id}
@@ -23,7 +24,7 @@ use Rattle.lra_history.proofs.ListsWithOneMore.{none_found}
 use Rattle.lra_history.proofs.LeftAsItWas.{any_gained, in_more, begun_before, deadline_kept, parent_part, stamps_gained, members_kept, members_gained, decision_kept, record_is}
 use Rattle.lra_history.proofs.Basics.{about_named, false_from, own_in_chain}
 
--- what the record of an LRA that was begun before becomes, by its decision and its members
+-- how the record of an LRA that was begun before changes, by its decision and its members
 pub record_gained : (f : Fact) (S T : List Fact) → IsMore f S T → IsSettled S → ((p : Id) → gives_number p f.body ≡ true → f.origin ≡ p.home) → (nodes : ℕ) (l : Id) → is_begun S l ≡ true → is_named l f.body ≡ true
     → decision_of T l ≡ decision_after f.body (decision_of S l) → members_of T l ≡ members_after f.num f.body (members_of S l) → record_of nodes T l ≡ record_after f (record_of nodes S l)
 record_gained f S T more settled home nodes l b named decision members =
@@ -68,7 +69,7 @@ decided_now f S T more l v body none =
         let g : is_decided T Close l ≡ true = d ∙ rw (same_self l) refl in
         rw (e, g) refl
 
--- a decision of an LRA that wanted nothing
+-- the record after a decision of an LRA that wanted nothing
 pub decide_record : (f : Fact) (S T : List Fact) → IsMore f S T → IsSettled S → (nodes : ℕ) (l : Id) (v : Verdict) → f.body ≡ Decide l v → is_begun S l ≡ true → want S l ≡ None → record_of nodes T l ≡ record_after f (record_of nodes S l)
 decide_record f S T more settled nodes l v body b none =
     record_gained f S T more settled (λ p g. absurd (let wrong : gives_number p (Decide l v) ≡ true = rw body at g in cc)) nodes l b (rw body (same_self l))
@@ -130,7 +131,7 @@ unheard : (S : List Fact) (l : Id) (m : ℕ) (a : Act) → ((g : Fact) → In g 
 unheard [] l m a h = refl
 unheard (g ∷ S) l m a h = let at = report_silent l m a g.body (h g (inl refl)) in let rest = unheard S l m a (λ x k. h x (inr k)) in rw (at, rest) refl
 
--- one of whom no fact speaks has just joined
+-- a member that no fact speaks of has just joined
 new_member : (S : List Fact) (l q : Id) (num m : ℕ) (links : Links) → ((g : Fact) → In g S → names_member l m g.body ≡ true → ⊥) → member_by S l num (Join q m links) ≡ joined links
 new_member S l q num m links h =
     let left : has_left S l m ≡ false = none_found (λ g. is_leave l m g.body) S (λ g k. false_from (is_leave l m g.body) (λ e. h g k (leave_names l m g.body e))) in
@@ -140,7 +141,7 @@ new_member S l q num m links h =
     let told : has_told S l m ≡ false = none_found (λ g. is_told_of l m g.body) S (λ g k. false_from (is_told_of l m g.body) (λ e. h g k (told_names l m g.body e))) in
     rw (left, completed, compensated, forgot, told) refl
 
--- a join under the next member number
+-- the record after a join with the next member number
 pub join_record : (f : Fact) (S T : List Fact) → IsMore f S T → IsSettled S → (nodes : ℕ) (l : Id) (m : ℕ) (links : Links) → f.body ≡ Join l m links → f.origin ≡ l.home → m ≡ numbers_given S l + 1 → is_begun S l ≡ true → record_of nodes T l ≡ record_after f (record_of nodes S l)
 join_record f S T more settled nodes l m links body at next b =
     record_gained f S T more settled home nodes l b (rw body (same_self l))
@@ -159,7 +160,7 @@ join_record f S T more settled nodes l m links body at next b =
       | inr o ↦ unspoken S settled l m (omega (arith, next)) g o e
     ]
 
--- A begin under it
+-- A begin under an LRA
 
 -- the parent of a new LRA has one member more
 pub parent_record : (f : Fact) (S T : List Fact) → IsMore f S T → IsSettled S → (nodes : ℕ) (p : Id) (deadline : ℕ) → f.body ≡ Begin (Some p) deadline → f.origin ≡ p.home → is_begun S p ≡ true → record_of nodes T p ≡ record_after f (record_of nodes S p)

@@ -22,9 +22,10 @@ use Rattle.lra_history.proofs.SetsToMerge.{closed_proper}
 use Rattle.lra_history.proofs.TwoClosedSets.{AreTogether}
 use Rattle.lra_history.proofs.Basics.{at_most, equal_from, equal_itself}
 
--- How many pass a test
+-- The number of elements that pass a test
 
--- where each that passes a test passes one of two others, it passes no more than those together
+-- if each element that passes a test passes one of two others, no more pass it than pass those
+-- together
 fewer_than_both : {X : Type 0} (p q r : X → Bool) (xs : List X) → ((x : X) → In x xs → p x ≡ true → (q x ≡ true) ⊎ (r x ≡ true)) → length (filter p xs) ≤ length (filter q xs) + length (filter r xs)
 fewer_than_both p q r [] h = omega arith
 fewer_than_both p q r (x ∷ xs) h = by (p x) refl (q x) refl (r x) refl (fewer_than_both p q r xs (λ y m. h y (inr m)))
@@ -50,7 +51,7 @@ none_pass t (x ∷ xs) h = by (t x) refl (none_pass t xs (λ y m. h y (inr m)))
     by true e rest = absurd (h x (inl refl) e)
     by false e rest = rest
 
--- one fact has this origin and number, or none
+-- at most one fact has this origin and number
 one_passes : (t : Fact → Bool) (node num : ℕ) (S : List Fact) → AreOnce S → ((f : Fact) → t f ≡ true → (f.origin ≡ node) × (f.num ≡ num)) → length (filter t S) ≤ 1
 one_passes t node num [] once h = omega arith
 one_passes t node num (f ∷ S) once h = by (t f) refl (one_passes t node num S once.1 h)
@@ -100,7 +101,7 @@ lesser_facts h u v below =
     sym (filter_both (is_counted v) (is_counted u) all)
     ∙ filter_agree (λ f. is_counted v f && is_counted u f) (is_counted u) all (λ f m. counted_too u v below f)
 
--- two closed sets of one history, the first inside the second
+-- two closed sets of one history, the first of which is inside the second
 inside_together : (h : History) → IsLawful h → (u v : List ℕ) → IsClosed h u → IsClosed h v → IsBelow u v → AreTogether (facts h u) (facts h v) (facts h v) u v
 inside_together h law u v cu cv below =
     record {
@@ -113,7 +114,7 @@ inside_together h law u v cu cv below =
       proper = closed_proper h law v cv;
     }
 
--- the begin of the LRA that is numbered so
+-- the fact begins the LRA with this number
 abbrev is_begin_at : ℕ → ℕ → Fact → Bool
 is_begin_at home num f = is_begin f.body && ((f.origin == home) && (f.num == num))
 
@@ -141,7 +142,7 @@ module _ (h : History) (law : IsLawful h) (home : ℕ) (v : List ℕ) (closed : 
   abbrev held_before : Fact → Bool
   held_before f = is_counted e.front f && begins_held before home f
 
-  -- what is held was held at the entry, or begins with it
+  -- an LRA that is held was held at the entry, or begins with it
   held_or_new : (f : Fact) → In f now → begins_held now home f ≡ true → (held_before f ≡ true) ⊎ (is_begin_at home e.fact.num f ≡ true)
   held_or_new f m passes =
       let begin = and_left (is_begin f.body) _ passes in
@@ -168,7 +169,7 @@ module _ (h : History) (law : IsLawful h) (home : ℕ) (v : List ℕ) (closed : 
       ap (λ (fs : List Fact). length fs) (filter_both (is_counted e.front) (begins_held before home) now)
       ∙ ap (λ (fs : List Fact). length (filter (begins_held before home) fs)) (lesser_facts h e.front v below)
 
-  -- so it is no more than then, or one more if the entry begins an LRA
+  -- so the home holds no more than then, or one more if the entry begins an LRA
   held_after : held_at before home ≤ 256 → held_at now home ≤ 256
   held_after few = by (is_begin e.fact.body) refl
     where

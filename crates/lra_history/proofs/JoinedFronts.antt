@@ -18,7 +18,7 @@ join_at (a ∷ v) (b ∷ w) (suc k) = join_at v w k
 pub count_join : (v w : List ℕ) (node : ℕ) → count (join_fronts v w) node ≡ max (count v node) (count w node)
 count_join v w node = join_at v w _
 
--- in either order
+-- the fronts join to the same in either order
 pub join_swap : (v w : List ℕ) → join_fronts v w ≡ join_fronts w v
 join_swap [] [] = refl
 join_swap [] (b ∷ w) = refl
@@ -27,14 +27,14 @@ join_swap (a ∷ v) (b ∷ w) =
     let here : max a b ≡ max b a = omega arith in
     ap (λ n. n ∷ join_fronts v w) here ∙ ap (λ r. max b a ∷ r) (join_swap v w)
 
--- fronts of so many nodes join to one of so many
+-- joined fronts of the same number of nodes count that many nodes
 pub length_join : (v w : List ℕ) → length v ≡ length w → length (join_fronts v w) ≡ length v
 length_join [] [] e = refl
 length_join [] (b ∷ w) e = absurd cc
 length_join (a ∷ v) [] e = absurd cc
 length_join (a ∷ v) (b ∷ w) e = ap suc (length_join v w (omega (arith, e)))
 
--- what is at most the greater of two is at most one of them
+-- a number that is at most the greater of two is at most one of them
 pub at_most_one : (n a b : ℕ) → n ≤ max a b → (n ≤ a) ⊎ (n ≤ b)
 at_most_one n a b h = grind arith
 
@@ -45,7 +45,7 @@ below_left v w node = omega (arith, count_join v w node)
 pub below_right : (v w : List ℕ) → IsBelow w (join_fronts v w)
 below_right v w node = omega (arith, count_join v w node)
 
--- the facts that joined fronts count are those that one or the other counts
+-- the facts that joined fronts count are those that one front or the other counts
 pub facts_union : (h : History) (v w : List ℕ) → IsUnion (facts h v) (facts h w) (facts h (join_fronts v w))
 facts_union h v w =
     record {
@@ -78,7 +78,7 @@ closed_join h v w cv cw =
       within = λ node. omega (arith, count_join v w node, cv.within node, cw.within node);
     }
 
--- and one that counts all that a node entered, to such a one
+-- and if one of them counts all that a node entered, so does the joined front
 pub current_join : (h : History) (node : ℕ) (v w : List ℕ) → IsCurrent h node v → IsClosed h w → IsCurrent h node (join_fronts v w)
 current_join h node v w current closed =
     record {
@@ -88,7 +88,7 @@ current_join h node v w current closed =
       own = omega (arith, count_join v w node, current.own, closed.within node);
     }
 
--- fronts that count two sets join to one that counts their union
+-- if two fronts count two sets, the joined front counts their union
 pub counted_join : (S T U : List Fact) (v w : List ℕ) → IsUnion S T U → IsCounted S v → IsCounted T w → IsCounted U (join_fronts v w)
 counted_join S T U v w union cs ct =
     record {

@@ -29,12 +29,12 @@ use Rattle.lra_history.specs.Views.{is_purge_fact, purge_number}
 use Rattle.lra_history.proofs.ListsWithOneMore.{any_more, most_more, filter_same, filter_more, filter_append, map_last, map_agree, by_number_last, parent_same, deadline_same, heard_same, set_at_node}
 use Rattle.lra_history.proofs.Basics.{equal_from, equal_itself, false_from, in_left, in_right}
 
--- The same of a set with one more fact
+-- The same answers in a set with one more fact
 
 pub any_gained : (f : Fact) (S T : List Fact) → IsMore f S T → (t : Fact → Bool) → list_any t T ≡ (t f || list_any t S)
 any_gained f S T more t = ap (list_any t) more.is ∙ any_more t more.before more.after f ∙ ap (λ xs. t f || list_any t xs) (sym more.was)
 
--- where that one fails the test
+-- a test that the new fact fails finds the same
 pub any_kept : (f : Fact) (S T : List Fact) → IsMore f S T → (t : Fact → Bool) → t f ≡ false → list_any t T ≡ list_any t S
 any_kept f S T more t e = any_gained f S T more t ∙ ap (λ b. b || list_any t S) e
 
@@ -53,7 +53,7 @@ deadline_kept f S T more l e = ap (λ xs. deadline_of xs l) more.is ∙ deadline
 pub heard_kept : (f : Fact) (S T : List Fact) → IsMore f S T → (l : Id) (m : ℕ) (a : Act) → reported l m a f.body ≡ None → heard T l m a ≡ heard S l m a
 heard_kept f S T more l m a e = ap (λ xs. heard xs l m a) more.is ∙ heard_same more.before more.after f l m a e ∙ ap (λ xs. heard xs l m a) (sym more.was)
 
--- what the sets have
+-- the greater set has the new fact and the old ones
 pub in_more : (f : Fact) (S T : List Fact) (more : IsMore f S T) (g : Fact) → In g T → (g ≡ f) ⊎ In g S
 in_more f S T more g m =
     elim (in_append more.before (f ∷ more.after) g (subst (λ (xs : List Fact). In g xs) more.is m)) [
@@ -86,7 +86,7 @@ begun_before f S T more l b = false_from (begins l f) (λ e.
     let other = begins_at l f e in
     omega (arith, more.newest found.0 found.1 (one.0 ∙ sym other.0), one.1, other.1))
 
--- and has a lesser number than a new fact of its home
+-- and it has a lesser number than a new fact of its home
 pub begun_lesser : (f : Fact) (S T : List Fact) → IsMore f S T → (l : Id) → is_begun S l ≡ true → l.home ≡ f.origin → l.num < f.num
 begun_lesser f S T more l b at =
     let found = any_gives (begins l) S b in
@@ -103,22 +103,22 @@ in_rest : (D : Id → Type 0) (g : Id → List Id) (a : Id) (above : Option Id) 
 in_rest D g a None h m = absurd m
 in_rest D g a (Some p) h m = h p refl m
 
--- what holds of an LRA and goes up to parents holds along its chain
+-- a property that passes from an LRA to its parent holds along its chain
 pub along_chain : (D : Id → Type 0) (S : List Fact) → ((l p : Id) → D l → parent_of S l ≡ Some p → D p) → (n : ℕ) (l a : Id) → D l → In a (chain_within n S l) → D a
 along_chain D S up zero l a d (inl s) = subst D (sym s) d
 along_chain D S up zero l a d (inr m) = absurd m
 along_chain D S up (suc n) l a d (inl s) = subst D (sym s) d
 along_chain D S up (suc n) l a d (inr m) = in_rest D (chain_within n S) a (parent_of S l) (λ p e. along_chain D S up n p a (up l p d e)) m
 
--- each of a chain was begun
+-- each LRA of a chain was begun
 pub chain_begun : (S : List Fact) → IsWhole S → (l : Id) → is_begun S l ≡ true → (a : Id) → In a (chain S l) → is_begun S a ≡ true
 chain_begun S whole l b a m = along_chain (λ x. is_begun S x ≡ true) S whole.parents l.num l a b m
 
--- and the chain stays
+-- and the chain stays the same
 pub chain_kept : (f : Fact) (S T : List Fact) → IsMore f S T → IsWhole S → (l : Id) → is_begun S l ≡ true → chain T l ≡ chain S l
 chain_kept f S T more whole l b = sym (same_chain_within S T whole.parents (λ d e. sym (parent_kept f S T more d (begun_before f S T more d e))) l.num l b)
 
--- a fact that is no purge purges none
+-- a fact that is no purge purges nothing
 pub purges_none : (body : Body) (a : Id) → is_purge_fact body ≡ false → is_purge a body ≡ false
 purges_none (Begin p d) a e = refl
 purges_none (Join q m links) a e = refl
@@ -129,7 +129,7 @@ purges_none (Forgot q m) a e = refl
 purges_none (Told q m) a e = refl
 purges_none (Purge q) a e = absurd cc
 
--- whether an LRA that was begun is held stays, where the fact is no purge
+-- an LRA that was begun stays held or not held, if the fact is no purge
 pub held_kept : (f : Fact) (S T : List Fact) → IsMore f S T → IsWhole S → is_purge_fact f.body ≡ false → (l : Id) → is_begun S l ≡ true → is_held T l ≡ is_held S l
 held_kept f S T more whole plain l b =
     let begun : is_begun T l ≡ is_begun S l = any_kept f S T more (begins l) (begun_before f S T more l b) in
@@ -141,7 +141,7 @@ held_kept f S T more whole plain l b =
     rw (root, gone) refl) in
     rw (begun, chained, purged) refl
 
--- and of all but the one that the fact begins
+-- and so do all LRAs except the one that the fact begins
 pub held_stays : (f : Fact) (S T : List Fact) → IsMore f S T → IsWhole S → is_purge_fact f.body ≡ false → (l : Id) → begins l f ≡ false → is_held T l ≡ is_held S l
 held_stays f S T more whole plain l e = by (is_begun S l) refl
   where
@@ -152,7 +152,7 @@ held_stays f S T more whole plain l e = by (is_begun S l) refl
     by true b = held_kept f S T more whole plain l b
     by false b = rw (begun, b) refl
 
--- the last purge of a node stays where the fact is no purge
+-- the last purge of a node stays the same if the fact is no purge
 pub purge_kept : (f : Fact) (S T : List Fact) → IsMore f S T → is_purge_fact f.body ≡ false → (node : ℕ) → purge_number T node ≡ purge_number S node
 purge_kept f S T more e node =
     most_gained f S T more (λ g. cond ((g.origin == node) && is_purge_fact g.body) g.num 0)
@@ -227,7 +227,8 @@ unnamed_giver l (Forgot q n) e = refl
 unnamed_giver l (Told q n) e = refl
 unnamed_giver l (Purge q) e = refl
 
--- a fact that says nothing of the participants of l: that one leaves, an outcome, that one was told to forget, or of the end
+-- a fact that says nothing of the participants of l: no leave, no outcome, and no notice that a
+-- participant was told to forget or told of the end
 pub record IsMute (l : Id) (body : Body) : Type 0 where
   pub leaves : (m : ℕ) → is_leave l m body ≡ false
   pub reports : (m : ℕ) (a : Act) → reported l m a body ≡ None
@@ -240,7 +241,7 @@ unnamed_mute l body e =
 
 -- Members
 
--- what stands for a giver stays where the fact is mute
+-- what stands for a giver stays the same if the fact is mute
 pub member_kept : (f : Fact) (S T : List Fact) → IsMore f S T → (l : Id) → IsMute l f.body → (num : ℕ) (body : Body) → member_by T l num body ≡ member_by S l num body
 member_kept f S T more l mute num (Begin p d) = refl
 member_kept f S T more l mute num (Join q m links) =
@@ -257,11 +258,11 @@ member_kept f S T more l mute num (Forgot q m) = refl
 member_kept f S T more l mute num (Told q m) = refl
 member_kept f S T more l mute num (Purge q) = refl
 
--- the givers stay where the fact gives no number
+-- the givers stay the same if the fact gives no number
 pub givers_kept : (f : Fact) (S T : List Fact) → IsMore f S T → (l : Id) → gives_number l f.body ≡ false → givers T l ≡ givers S l
 givers_kept f S T more l none = ap by_number (filter_kept f S T more (λ g. gives_number l g.body) none)
 
--- and have it as their last where it gives one
+-- and have the fact as their last if it gives one
 pub givers_gained : (f : Fact) (S T : List Fact) (more : IsMore f S T) → IsSeated S → (l : Id) → f.origin ≡ l.home → gives_number l f.body ≡ true → givers T l ≡ givers S l ++ f ∷ []
 givers_gained f S T more seated l at some =
     ap (λ xs. by_number (filter gives xs)) more.is
@@ -283,12 +284,12 @@ givers_gained f S T more seated l at some =
 members_by : (f : Fact) (S T : List Fact) → IsMore f S T → (l : Id) → IsMute l f.body → (gs : List Fact) → map (λ (g : Fact). member_by T l g.num g.body) gs ≡ map (λ (g : Fact). member_by S l g.num g.body) gs
 members_by f S T more l mute gs = map_agree (λ (g : Fact). member_by T l g.num g.body) (λ (g : Fact). member_by S l g.num g.body) gs (λ g m. member_kept f S T more l mute g.num g.body)
 
--- the members stay where the fact gives no number and is mute
+-- the members stay the same if the fact gives no number and is mute
 pub members_kept : (f : Fact) (S T : List Fact) → IsMore f S T → (l : Id) → gives_number l f.body ≡ false → IsMute l f.body → members_of T l ≡ members_of S l
 members_kept f S T more l none mute =
     ap (map (λ (g : Fact). member_by T l g.num g.body)) (givers_kept f S T more l none) ∙ members_by f S T more l mute (givers S l)
 
--- and are one more where it gives one
+-- and there is one more of them if the fact gives a number
 pub members_gained : (f : Fact) (S T : List Fact) (more : IsMore f S T) → IsSeated S → (l : Id) → f.origin ≡ l.home → gives_number l f.body ≡ true → IsMute l f.body → members_of T l ≡ members_of S l ++ member_by T l f.num f.body ∷ []
 members_gained f S T more seated l at some mute =
     ap (map (λ (g : Fact). member_by T l g.num g.body)) (givers_gained f S T more seated l at some)
@@ -324,7 +325,7 @@ stamp_here f S T more l e =
     counted g m true false at = omega arith
     counted g m false c at = omega arith
 
--- of an LRA that the fact is about, its node's stamp is its number
+-- the stamp of the fact's node in an LRA that the fact is about becomes the fact's number
 pub stamps_gained : (f : Fact) (S T : List Fact) → IsMore f S T → (l : Id) → is_about l f ≡ true → (n : ℕ) → map (stamp T l) (nodes_to n) ≡ slice_set (map (stamp S l) (nodes_to n)) (f.origin - 1) f.num
 stamps_gained f S T more l e n =
     let some = more.some in
@@ -349,7 +350,7 @@ place_kept : (f : Fact) (S T : List Fact) → IsMore f S T → (num : ℕ) (abov
 place_kept f S T more num None late = refl
 place_kept f S T more num (Some p) late = ap (λ n. Some (record { number = p.num; slot = n })) (number_kept f S T more p num (late p refl))
 
--- where an LRA that was begun is nested stays
+-- the place where an LRA that was begun is nested stays the same
 pub parent_part : (f : Fact) (S T : List Fact) → IsMore f S T → IsWhole S → ((p : Id) → gives_number p f.body ≡ true → f.origin ≡ p.home) → (l : Id) → is_begun S l ≡ true → place_in T l.num (parent_of T l) ≡ place_in S l.num (parent_of S l)
 parent_part f S T more whole home l b =
     ap (place_in T l.num) (parent_kept f S T more l (begun_before f S T more l b))
@@ -367,7 +368,7 @@ decision_kept f S T more l none =
 pub record_is : (home num deadline : ℕ) (p q : Option Place) (c d : Option Verdict) (s t : List ℕ) (m n : List Member) → p ≡ q → c ≡ d → s ≡ t → m ≡ n → ◌≡◌ {A = Record} (record { home = home; num = num; parent = p; deadline = deadline; decision = c; stamps = s; members = m }) (record { home = home; num = num; parent = q; deadline = deadline; decision = d; stamps = t; members = n })
 record_is home num deadline p q c d s t m n a b e g = rw (a, b, e, g) refl
 
--- the record of an LRA that was begun and that the fact does not name stays
+-- the record of an LRA that was begun and that the fact does not name stays the same
 pub record_kept : (f : Fact) (S T : List Fact) → IsMore f S T → IsSettled S → ((p : Id) → gives_number p f.body ≡ true → f.origin ≡ p.home) → (nodes : ℕ) (l : Id) → is_begun S l ≡ true → is_named l f.body ≡ false → record_of nodes T l ≡ record_of nodes S l
 record_kept f S T more settled home nodes l b e =
     let began = begun_before f S T more l b in

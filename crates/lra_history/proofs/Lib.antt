@@ -1,4 +1,4 @@
--- What each file shows, by what it serves. Crates above may cite those marked `pub`.
+-- What each file proves, grouped by purpose. Crates above may cite those marked `pub`.
 
 -- ---- Small facts, and lists
 pub mod Basics  -- small facts that several files use

@@ -38,11 +38,11 @@ filter_append {X} t (x ∷ xs) ys = by (t x) (filter_append t xs ys)
     by true rest = ap (λ zs. x ∷ zs) rest
     by false rest = rest
 
--- one that fails the test is left out
+-- an element that fails the test is left out
 pub filter_same : {X : Type 0} (t : X → Bool) (xs ys : List X) (x : X) → t x ≡ false → filter t (xs ++ x ∷ ys) ≡ filter t (xs ++ ys)
 filter_same t xs ys x e = filter_append t xs (x ∷ ys) ∙ rw e (sym (filter_append t xs ys))
 
--- one that passes it stands between those that do
+-- an element that passes the test stands between the others that do
 pub filter_more : {X : Type 0} (t : X → Bool) (xs ys : List X) (x : X) → t x ≡ true → filter t (xs ++ x ∷ ys) ≡ filter t xs ++ x ∷ filter t ys
 filter_more t xs ys x e = filter_append t xs (x ∷ ys) ∙ rw e refl
 
@@ -61,7 +61,7 @@ length_last (y ∷ ys) x = omega (arith, length_last ys x)
 pub map_last : {X Y : Type 0} (g : X → Y) (xs : List X) (x : X) → map g (xs ++ x ∷ []) ≡ map g xs ++ g x ∷ []
 map_last g xs x = map-append g xs (x ∷ [])
 
--- functions that agree on each element
+-- functions that agree on each element map a list to the same
 pub map_agree : {X Y : Type 0} (g h : X → Y) (xs : List X) → ((x : X) → In x xs → g x ≡ h x) → map g xs ≡ map h xs
 map_agree g h [] e = refl
 map_agree g h (x ∷ xs) e = let at = e x (inl refl) in let rest = map_agree g h xs (λ y m. e y (inr m)) in cc
@@ -129,7 +129,7 @@ replicate_last : {X : Type 0} (n : ℕ) (x : X) → replicate n x ++ x ∷ [] �
 replicate_last zero x = refl
 replicate_last (suc n) x = ap (λ xs. x ∷ xs) (replicate_last n x)
 
--- none is given
+-- if every node is given 0, the list is all zeros
 pub zero_at_nodes : (g : ℕ → ℕ) (n : ℕ) → ((k : ℕ) → g k ≡ 0) → map g (nodes_to n) ≡ replicate n 0
 zero_at_nodes g zero none = refl
 zero_at_nodes g (suc n) none =
@@ -144,7 +144,7 @@ set_last [] a b v (suc i) here there = ap (λ c. c ∷ []) (sym (there (λ e. ab
 set_last (x ∷ xs) a b v zero here there = ap (λ c. v ∷ (xs ++ c ∷ [])) (sym (there (λ e. absurd (omega arith))))
 set_last (x ∷ xs) a b v (suc i) here there = ap (λ r. x ∷ r) (set_last xs a b v i (λ e. here (ap suc e)) (λ n. there (λ e. n (omega (arith, e)))))
 
--- what is given to one of them changes
+-- if what one node is given changes, the list changes at its place
 pub set_at_node : (g h : ℕ → ℕ) (i v n : ℕ) → h (suc i) ≡ v → ((k : ℕ) → (k ≡ suc i → ⊥) → h k ≡ g k) → map h (nodes_to n) ≡ slice_set (map g (nodes_to n)) i v
 set_at_node g h i v zero e others = refl
 set_at_node g h i v (suc n) e others =

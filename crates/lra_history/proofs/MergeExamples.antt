@@ -1,4 +1,5 @@
--- merges of the views of two nodes, computed: one hears an outcome while the other goes on, and then purges
+-- merges of the views of two nodes, computed: one node hears an outcome while the other goes on,
+-- and then purges
 use Rattle.std.proofs.Common.{Some, ◌≡◌, ℕ, List, [], ◌∷◌, refl, map, None}
 use Rattle.lra_id.specs.Ids.{Id}
 use Rattle.lra_id.specs.declared.outcome.Act.TheVariants.{Compensate}
@@ -42,7 +43,7 @@ twos =
 abbrev h : History
 h = ones ∷ twos ∷ []
 
--- the view of what a front counts, of which these are held at the two homes
+-- the view of what a front counts, with these LRAs held at the two homes
 abbrev seen : List ℕ → List Id → List Id → View
 seen v one two =
     record {
@@ -51,25 +52,25 @@ seen v one two =
       records = map (record_of 2 (facts h v)) one ∷ map (record_of 2 (facts h v)) two ∷ [];
     }
 
--- before the nodes hear of one another
+-- the view before the nodes hear of one another
 abbrev at_one : View
 at_one = seen (4 ∷ 0 ∷ []) (first ∷ second ∷ []) []
 
 abbrev at_two : View
 at_two = seen (3 ∷ 2 ∷ []) (first ∷ []) (third ∷ [])
 
--- either way the outcome is heard, and all three are held
+-- in either order the outcome is heard, and all three LRAs are held
 outcome_merged : merged at_one at_two ≡ seen (4 ∷ 2 ∷ []) (first ∷ second ∷ []) (third ∷ [])
 outcome_merged = refl
 
 outcome_merged_back : merged at_two at_one ≡ seen (4 ∷ 2 ∷ []) (first ∷ second ∷ []) (third ∷ [])
 outcome_merged_back = refl
 
--- after the purge
+-- the view after the purge
 abbrev purged : View
 purged = seen (5 ∷ 1 ∷ []) (second ∷ []) []
 
--- either way the first is gone, and does not come back
+-- in either order the first LRA is gone and does not come back
 purge_merged : merged at_two purged ≡ seen (5 ∷ 2 ∷ []) (second ∷ []) (third ∷ [])
 purge_merged = refl
 

@@ -42,7 +42,7 @@ pub merge_law : (h : History) (v w : List ℕ) (a b c : View) → IsLawful h →
 merge_law h v w a b c law cv cw sa sb m =
     merged_stands (facts h v) (facts h w) (facts h (join_fronts v w)) a b c (together h law v w a.front b.front cv cw sa.front sb.front) sa sb m
 
--- and a view of a closed front
+-- and that merge is a view of a closed front
 pub merged_view : (h : History) (v w : List ℕ) (a b c : View) → IsLawful h → IsClosedView h v a → IsClosedView h w b → IsMerged a b c → IsClosedView h (join_fronts v w) c
 merged_view h v w a b c law left right m =
     record {
@@ -56,7 +56,7 @@ same_view : (h : History) (v w : List ℕ) (a b : View) → v ≡ w → IsClosed
 same_view h v w a b same left right =
     one_view (facts h w) a b (left.nodes ∙ sym right.nodes) (subst (λ (x : List ℕ). StandsFor (facts h x) a) same left.stands) right.stands
 
--- the view keeps its front
+-- a view of a front has that front
 own_front : (h : History) (v : List ℕ) (a : View) → IsClosedView h v a → a.front ≡ v
 own_front h v a view = one_front (facts h v) a.front v (view.nodes ∙ sym view.closed.nodes) view.stands.front (closed_counted h v view.closed)
 
@@ -64,12 +64,12 @@ own_front h v a view = one_front (facts h v) a.front v (view.nodes ∙ sym view.
 pub merge_same : (h : History) (v : List ℕ) (a c : View) → IsLawful h → IsClosedView h v a → IsMerged a a c → c ≡ a
 merge_same h v a c law view m = same_view h (join_fronts v v) v c a (join_same v) (merged_view h v v a a c law view view m) view
 
--- merges go either way
+-- merging gives the same in either order
 pub merge_swap : (h : History) (v w : List ℕ) (a b c d : View) → IsLawful h → IsClosedView h v a → IsClosedView h w b → IsMerged a b c → IsMerged b a d → c ≡ d
 merge_swap h v w a b c d law left right m n =
     same_view h (join_fronts v w) (join_fronts w v) c d (join_swap v w) (merged_view h v w a b c law left right m) (merged_view h w v b a d law right left n)
 
--- of three, it is the same which two are merged first
+-- merging three views gives the same, whichever two are merged first
 pub merge_assoc : (h : History) (u v w : List ℕ) (a b c ab bc left right : View) → IsLawful h → IsClosedView h u a → IsClosedView h v b → IsClosedView h w c
     → IsMerged a b ab → IsMerged ab c left → IsMerged b c bc → IsMerged a bc right → left ≡ right
 merge_assoc h u v w a b c ab bc left right law va vb vc m_ab m_left m_bc m_right =
@@ -77,7 +77,7 @@ merge_assoc h u v w a b c ab bc left right law va vb vc m_ab m_left m_bc m_right
     (merged_view h (join_fronts u v) w ab c left law (merged_view h u v a b ab law va vb m_ab) vc m_left)
     (merged_view h u (join_fronts v w) a bc right law va (merged_view h v w b c bc law vb vc m_bc) m_right)
 
--- each of the two is a part of the merge
+-- each of the two views is a part of the merge
 pub merge_above_first : (h : History) (v w : List ℕ) (a b c : View) → IsLawful h → IsClosedView h v a → IsClosedView h w b → IsMerged a b c → IsPartOf h a c
 merge_above_first h v w a b c law left right m =
     record { lesser = v; greater = join_fronts v w; first = left; second = merged_view h v w a b c law left right m; below = below_left v w }
@@ -86,7 +86,7 @@ pub merge_above_second : (h : History) (v w : List ℕ) (a b c : View) → IsLaw
 merge_above_second h v w a b c law left right m =
     record { lesser = w; greater = join_fronts v w; first = right; second = merged_view h v w a b c law left right m; below = below_right v w }
 
--- and the merge is a part of each view of which both are parts
+-- and the merge is a part of every view of which both are parts
 pub merge_least : (h : History) (a b c d : View) → IsLawful h → IsPartOf h a d → IsPartOf h b d → IsMerged a b c → IsPartOf h c d
 merge_least h a b c d law left right m =
     let one : left.greater ≡ right.greater = sym (own_front h left.greater d left.second) ∙ own_front h right.greater d right.second in

@@ -1,4 +1,4 @@
--- What two closed sets of one history say of one LRA, and what their union does
+-- What two closed sets of one history say of one LRA, and what their union says
 use Rattle.std.proofs.Common.{◌≡◌, ◌≤◌, ◌<◌, ◌&&◌, ℕ, List, Bool, true, false, refl, sym, ap, arith}
 use Rattle.std.proofs.lemmas.Bool.Decides.{nat_tests}
 use Rattle.lra_id.specs.Fronts.{count, is_covered, join_fronts}
@@ -63,6 +63,6 @@ module _ (h : History) (v w : List ℕ) (law : IsLawful h) (cv : IsClosed h v) (
   pub home_facts : (l : Id) (f : Fact) → stamp (facts h w) l l.home ≤ stamp (facts h v) l l.home → In f (facts h w) → f.origin ≡ l.home → is_about l f ≡ true → In f (facts h v)
   home_facts l f less = told_at_home (facts h v) (facts h w) (facts h (join_fronts v w)) v w sets l less f
 
--- the greater outcome is heard, whatever the fronts are
+-- the union hears the greater outcome, for any fronts
 pub greater_heard : (h : History) (v w : List ℕ) (l : Id) (m : ℕ) (act : Act) → heard (facts h (join_fronts v w)) l m act ≡ greater (heard (facts h v) l m act) (heard (facts h w) l m act)
 greater_heard h v w l m act = heard_union (facts h v) (facts h w) (facts h (join_fronts v w)) (facts_union h v w) l m act

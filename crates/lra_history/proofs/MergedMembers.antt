@@ -68,7 +68,7 @@ unnamed_told l m (Report id n act outcome) e = refl
 unnamed_told l m (Forgot id n) e = refl
 unnamed_told l m (Purge root) e = refl
 
--- nothing is heard where nothing is reported
+-- nothing is heard if nothing is reported
 heard_none : (S : List Fact) (l : Id) (m : ℕ) (a : Act) → ((f : Fact) → In f S → reported l m a f.body ≡ None) → heard S l m a ≡ None
 heard_none [] l m a none = refl
 heard_none (f ∷ S) l m a none =
@@ -103,7 +103,7 @@ masked_and : (b c : Bool) → (b ≡ false → c ≡ false) → (b && c) ≡ c
 masked_and true c h = refl
 masked_and false c h = sym (h refl)
 
--- each of the first list's members, merged with what the other has at its place
+-- each member of the first list is merged with what the other list has at its place
 merge_maps : (f g k : Fact → Member) (xs rest : List Fact) → ((x : Fact) → In x xs → k x ≡ merged_member (f x) (Some (g x))) → ((x : Fact) → In x rest → k x ≡ merged_member (f x) None) → map k (xs ++ rest) ≡ merged_members (map f (xs ++ rest)) (map g xs)
 merge_maps f g k [] [] a b = refl
 merge_maps f g k [] (x ∷ rest) a b =
@@ -112,7 +112,7 @@ merge_maps f g k (x ∷ xs) rest a b =
     ap (λ y. y ∷ map k (xs ++ rest)) (a x (inl refl)) ∙ ap (λ ys. merged_member (f x) (Some (g x)) ∷ ys) (merge_maps f g k xs rest (λ y m. a y (inr m)) b)
 
 module _ (S T U : List Fact) (v w : List ℕ) (t : AreTogether S T U v w) (l : Id) (le : stamp T l l.home ≤ stamp S l l.home) where
-  -- what has no link was not heard or marked
+  -- for an act that a participant has no link for, nothing was heard or marked
   unheard : (f : Fact) (m : ℕ) (links : Links) (act : Act) → In f U → f.body ≡ Join l m links → is_some (link_for act links) ≡ false → heard U l m act ≡ None
   unheard f m links act k joins off = heard_none U l m act (λ g n. by g n (reported l m act g.body) refl)
     where
@@ -129,7 +129,7 @@ module _ (S T U : List Fact) (v w : List ℕ) (t : AreTogether S T U v w) (l : I
   left_there : (m : ℕ) → has_left T l m ≡ true → has_left S l m ≡ true
   left_there m e = sym (left_union S T U v w t l le m) ∙ any_inside (λ f. is_leave l m f.body) T U t.union.right e
 
-  -- a participant in both
+  -- the member for a participant that joined in both sets
   participant_both : (f : Fact) (m : ℕ) (links : Links) → In f U → f.body ≡ Join l m links → member_by U l f.num (Join l m links) ≡ merged_member (member_by S l f.num (Join l m links)) (Some (member_by T l f.num (Join l m links)))
   participant_both f m links k joins =
       let complete = heard_union S T U t.union l m Complete in
@@ -147,7 +147,7 @@ module _ (S T U : List Fact) (v w : List ℕ) (t : AreTogether S T U v w) (l : I
       same_left (has_left U l m) (has_left S l m) (has_left T l m) (joined_as U l m links) (joined_as S l m links) (joined_as T l m links)
       (left_union S T U v w t l le m) (left_there m) (rw (complete, compensate, forgotten, told, kept, held, marked, noted) refl)
 
-  -- a participant of which the second set says nothing
+  -- the member for a participant of which the second set says nothing
   participant_alone : (f : Fact) (m : ℕ) (links : Links) → In f U → f.body ≡ Join l m links → ((g : Fact) → In g T → names_member l m g.body ≡ false) → member_by U l f.num (Join l m links) ≡ merged_member (member_by S l f.num (Join l m links)) None
   participant_alone f m links k joins silent =
       let no_complete = heard_none T l m Complete (λ g k. unnamed_report l m Complete g.body (silent g k)) in
@@ -169,7 +169,7 @@ module _ (S T U : List Fact) (v w : List ℕ) (t : AreTogether S T U v w) (l : I
       same_alone (has_left U l m) (has_left S l m) (joined_as U l m links) (joined_as S l m links)
       (left_union S T U v w t l le m) (rw (complete, compensate, mark, note, kept, held, marked, noted) refl)
 
-  -- what a set gave numbers to before a fact has lesser numbers than that fact's
+  -- the member numbers that a set gave before a fact are less than that fact's
   beyond_number : (longer : IsLonger (givers S l) (givers T l)) (f : Fact) → In f longer.rest → numbers_given T l < member_number S l f.num
   beyond_number longer f m =
       let less : Fact → Bool = λ g. nat_lt g.num f.num in
@@ -187,7 +187,7 @@ module _ (S T U : List Fact) (v w : List ℕ) (t : AreTogether S T U v w) (l : I
       let there = giver_in S l f (longer.others f k).0 in
       omega (arith, beyond_number longer f k, t.first.seated.numbers f l m links there.0 joins, (t.second.members g l m n e).1))
 
-  -- what a giver makes of a member: by its body
+  -- what a giver makes a member of depends on its body
   by_giver : (P : Body → Type 0) (body : Body) → gives_number l body ≡ true → ((p : Option Id) (d : ℕ) → P (Begin p d)) → ((m : ℕ) (links : Links) → body ≡ Join l m links → P (Join l m links)) → P body
   by_giver P (Begin p d) e begins joins = begins p d
   by_giver P (Join id m links) e begins joins =
@@ -200,7 +200,7 @@ module _ (S T U : List Fact) (v w : List ℕ) (t : AreTogether S T U v w) (l : I
   by_giver P (Told id m) e begins joins = absurd cc
   by_giver P (Purge root) e begins joins = absurd cc
 
-  -- where the first set has the greater home stamp, its members are kept
+  -- if the first set has the greater home stamp, its members are kept
   pub members_union : members_of U l ≡ merged_members (members_of S l) (members_of T l)
   members_union =
       let by_set : List Fact → Fact → Member = λ X f. member_by X l f.num f.body in

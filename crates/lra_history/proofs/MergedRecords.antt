@@ -1,4 +1,4 @@
--- the record of an LRA in a union, from those in the two sets
+-- the record of an LRA in a union, made of those in the two sets
 use Rattle.std.proofs.Common.{◌≡◌, inl, inr, ◌≤◌, ◌<◌, ◌+◌, ◌-◌, ◌==◌, ◌&&◌, ℕ, zero, suc, List, [], ◌∷◌, ◌++◌, refl, sym, ap, ◌∙◌, Bool, true, false, cond, arith, Option, Some, None, filter, map, max, length, nat_le, nat_lt, get_or}
 use Rattle.std.proofs.lemmas.Bool.Decides.{nat_tests}
 use Rattle.std.proofs.lemmas.List.{get_or_append_left, length-map, map-append}
@@ -34,7 +34,7 @@ use Rattle.lra_history.proofs.Basics.{about_named, at_most, length_nodes}
 
 -- Lists of what each node has
 
--- the element of a node
+-- the element at a node's place is that of the node
 pub nth_of : {X : Type 0} (g : ℕ → X) (d : X) (n k : ℕ) → k < n → get_or (map g (nodes_to n)) k d ≡ g (suc k)
 nth_of g d zero k l = absurd (omega (arith, l))
 nth_of g d (suc n) k l =
@@ -48,13 +48,13 @@ nth_of g d (suc n) k l =
       | inr lt ↦ get_or_append_left (map g (nodes_to n)) (g (suc n) ∷ []) d k (omega (arith, lt, size)) ∙ nth_of g d n k lt
     ])
 
--- what a list of each node's counts has of a node
+-- the count that a list of each node's counts has at a node is that node's
 pub count_nodes : (g : ℕ → ℕ) (n k : ℕ) → 1 ≤ k → k ≤ n → count (map g (nodes_to n)) k ≡ g k
 count_nodes g n k a b =
     let back : suc (k - 1) ≡ k = omega (arith, a) in
     nth_of g 0 n (k - 1) (omega (arith, a, b)) ∙ ap g back
 
--- the greater of each node's two counts
+-- joining the lists of each node's counts gives the greater of the two counts
 pub joined_maps : (f g k : ℕ → ℕ) (ns : List ℕ) → ((n : ℕ) → k n ≡ max (f n) (g n)) → map k ns ≡ join_fronts (map f ns) (map g ns)
 joined_maps f g k [] e = refl
 joined_maps f g k (n ∷ ns) e = ap (λ x. x ∷ map k ns) (e n) ∙ ap (λ xs. max (f n) (g n) ∷ xs) (joined_maps f g k ns e)
@@ -158,7 +158,7 @@ named_told l m (Forgot id n) e = absurd cc
 named_told l m (Purge root) e = absurd cc
 
 module _ (S T U : List Fact) (v w : List ℕ) (t : AreTogether S T U v w) (l : Id) (begun : is_begun S l ≡ true) where
-  -- the member number of a nested LRA goes by what its home did before
+  -- the member number of a nested LRA depends only on what its home did before
   number_stays : (p : Id) → p.home ≡ l.home → member_number U p l.num ≡ member_number S p l.num
   number_stays p home =
       let less : Fact → Bool = λ f. nat_lt f.num l.num in
@@ -197,7 +197,7 @@ module _ (S T U : List Fact) (v w : List ℕ) (t : AreTogether S T U v w) (l : I
   stamps_union : (nodes : ℕ) → map (stamp U l) (nodes_to nodes) ≡ join_fronts (map (stamp S l) (nodes_to nodes)) (map (stamp T l) (nodes_to nodes))
   stamps_union nodes = joined_maps (stamp S l) (stamp T l) (stamp U l) (nodes_to nodes) (λ node. most_union (λ f. cond ((f.origin == node) && is_about l f) f.num 0) S T U t.union)
 
-  -- in the union the record is the two sets' records merged
+  -- in the union the record is the merge of the two sets' records
   pub record_union : (nodes : ℕ) → 1 ≤ l.home → l.home ≤ nodes → record_of nodes U l ≡ merged_record (record_of nodes S l) (record_of nodes T l)
   record_union nodes low high =
       let begin = begin_stays in
@@ -220,7 +220,7 @@ module _ (S T U : List Fact) (v w : List ℕ) (t : AreTogether S T U v w) (l : I
             step ∙ sym (second_wins (record_of nodes S l) (record_of nodes T l) (omega (arith, lt, hs, ht)))
       ]
 
-  -- where the first set has all that the second has about it, its record is the first's
+  -- if the first set has all that the second has about an LRA, the union's record is the first's
   pub record_known : (nodes : ℕ) → ((f : Fact) → In f T → is_about l f ≡ true → In f S) → record_of nodes U l ≡ record_of nodes S l
   record_known nodes has =
       let begin = begin_stays in
@@ -248,7 +248,7 @@ module _ (S T U : List Fact) (v w : List ℕ) (t : AreTogether S T U v w) (l : I
           most_least (λ f. cond ((f.origin == node) && is_about l f) f.num 0) T (stamp S l node) (λ f m.
           bounded (f.origin == node) (is_about l f) f.num (stamp S l node) (λ at about. stamp_reaches S l f node (has f m about) (origin_is f.origin node at) about))
 
-      -- what only facts about the LRA tell is told by the first set
+      -- a test that only facts about the LRA pass finds in the union what it finds in the first set
       told : (test : Fact → Bool) → ((f : Fact) → test f ≡ true → is_named l f.body ≡ true) → list_any test U ≡ list_any test S
       told test named =
           same_bools (list_any test U) (list_any test S)

@@ -50,13 +50,13 @@ held_none S l held a f m root k purge =
     let clash : true ≡ false = sym on ∙ off in
     absurd cc
 
--- an LRA of a part of a set is a root in both
+-- an LRA that is begun in a part of a set is a root in both or in neither
 root_inside : (J X : List Fact) → AreOnce J → AreOnce X → IsInside J X → (a : Id) → is_begun J a ≡ true → is_root J a ≡ is_root X a
 root_inside J X once twice inside a e =
     let f = any_gives (begins a) J e in
     ap is_none (parent_found J a f.0 once f.1 f.2 ∙ sym (parent_found X a f.0 twice (inside f.0 f.1) f.2))
 
--- held in the greater set and begun in the part: held in the part
+-- an LRA that is held in the greater set and begun in the part is held in the part
 held_inside : (J X : List Fact) → IsSettled J → IsSettled X → IsInside J X → (l : Id) → is_begun J l ≡ true → is_held X l ≡ true → is_held J l ≡ true
 held_inside J X sj sx inside l begun held = held_from J l begun (λ a f m root k purge.
     let same = chain_inside J X sj.whole sj.seated.once sx.seated.once inside l begun in
@@ -64,7 +64,8 @@ held_inside J X sj sx inside l begun held = held_from J l begun (λ a f m root k
     held_none X l held a f (subst (λ (c : List Id). In a c) same m)
     (sym (root_inside J X sj.seated.once sx.seated.once inside a there) ∙ root) (inside f k) purge)
 
--- held in the part, and the greater set's purges of its root are in the part
+-- an LRA that is held in the part is held in the greater set, if the purges of its root there are
+-- in the part
 held_outside : (J X : List Fact) → IsSettled J → IsSettled X → IsInside J X → (l : Id) → is_held J l ≡ true → ((a : Id) (f : Fact) → In a (chain J l) → In f X → is_purge a f.body ≡ true → In f J) → is_held X l ≡ true
 held_outside J X sj sx inside l held none =
     let begun = held_begun J l held in
@@ -74,7 +75,7 @@ held_outside J X sj sx inside l held none =
     let there = chain_begun J sj.whole l begun a here in
     held_none J l held a f here (root_inside J X sj.seated.once sx.seated.once inside a there ∙ root) (none a f here k purge) purge)
 
--- one home's LRAs have chains of that home
+-- the LRAs in a chain are of one home
 chain_home : (S : List Fact) → IsWhole S → (l a : Id) → In a (chain S l) → a.home ≡ l.home
 chain_home S whole l a m = along_chain (λ d. d.home ≡ l.home) S (λ d p at above. parent_home S d p whole.nested above ∙ at) l.num l a refl m
 
@@ -82,7 +83,7 @@ uncovered_lt : (v : List ℕ) (l : Id) → is_covered v l ≡ false → count v 
 uncovered_lt v l e = grind (arith, nat_tests)
 
 module _ (S T U : List Fact) (v w : List ℕ) (t : AreTogether S T U v w) (l : Id) where
-  -- begun in the union and covered by the first's front: begun in the first
+  -- an LRA that is begun in the union and covered by the first front is begun in the first set
   begun_first : is_begun U l ≡ true → l.num ≤ count v l.home → is_begun S l ≡ true
   begun_first begun covered =
       let f = any_gives (begins l) U begun in
@@ -92,11 +93,11 @@ module _ (S T U : List Fact) (v w : List ℕ) (t : AreTogether S T U v w) (l : I
         | inr k ↦ known S T U v w t f.0 k (omega (arith, covered, at.1, ap (count v) at.0))
       ]) f.2
 
-  -- held in the union and covered by the first's front: held in the first
+  -- an LRA that is held in the union and covered by the first front is held in the first set
   pub held_first : is_held U l ≡ true → l.num ≤ count v l.home → is_held S l ≡ true
   held_first held covered = held_inside S U t.first t.both t.union.left l (begun_first (held_begun U l held) covered) held
 
-  -- held in both: held in the union
+  -- an LRA that is held in both sets is held in the union
   pub held_both : is_held S l ≡ true → is_held T l ≡ true → is_held U l ≡ true
   held_both left right =
       let chained_left = chain_inside S U t.first.whole t.first.seated.once t.both.seated.once t.union.left l (held_begun S l left) in
@@ -109,7 +110,7 @@ module _ (S T U : List Fact) (v w : List ℕ) (t : AreTogether S T U v w) (l : I
         | inr n ↦ held_none T l right a f there (root_inside T U t.second.seated.once t.both.seated.once t.union.right a (chain_begun T t.second.whole l (held_begun T l right) a there) ∙ root) n purge
       ])
 
-  -- held in the first, and not covered by the second's front: held in the union
+  -- an LRA that is held in the first set and not covered by the second front is held in the union
   pub held_alone : is_held S l ≡ true → count w l.home < l.num → is_held U l ≡ true
   held_alone held beyond =
       let reach = begun_covered S v l t.counted_first (held_begun S l held) in
@@ -120,7 +121,7 @@ module _ (S T U : List Fact) (v w : List ℕ) (t : AreTogether S T U v w) (l : I
         | inr n ↦ known S T U v w t f n (omega (arith, t.counted_second.counted f n, ap (count w) home, ap (count v) home, beyond, reach.1))
       ])
 
-  -- what a front does not cover its set says nothing of
+  -- a set says nothing of an LRA that its front does not cover
   pub silent_beyond : count w l.home < l.num → (f : Fact) → In f T → is_about l f ≡ true → ⊥
   silent_beyond beyond f m about =
       let begun : is_begun T l ≡ true = elim (or_cases (begins l f) (is_named l f.body) about) [
@@ -171,17 +172,18 @@ module _ (S T U : List Fact) (v w : List ℕ) (t : AreTogether S T U v w) (l : I
   by_held false true a b = in_second a b (is_covered v l) refl
   by_held false false a b = in_none a b
 
-  -- of each LRA what is absorbed is what the union has
+  -- what is absorbed of an LRA is what the union has of it
   pub taken_union : at_union ≡ absorbed (is_covered v l) (is_covered w l) (cond (is_held S l) (Some (record_of nodes S l)) None) (cond (is_held T l) (Some (record_of nodes T l)) None)
   taken_union = by_held (is_held S l) (is_held T l) refl refl
 
--- What is absorbed of a part that is sent. Listed: it is told which LRAs of the home are held. Sent: the record is told, if there
--- is one
+-- What is absorbed of a part that is sent. `listed`: the frame tells which LRAs of the home are
+-- held. `sent`: it tells the record, if there is one
 
 module _ (S T U : List Fact) (v w : List ℕ) (t : AreTogether S T U v w) (l : Id) (nodes : ℕ) (low : 1 ≤ l.home) (high : l.home ≤ nodes) (listed sent : Bool)
     (purges : listed ≡ false → (f : Fact) (a : Id) → In f T → is_purge a f.body ≡ true → a.home ≡ l.home → In f S)
     (facts : sent ≡ false → (f : Fact) → In f T → is_about l f ≡ true → In f S) where
-  -- held in the first and begun in the second, whose purges of the home the first has: held in the second
+  -- if the first set has the second's purges of the home, an LRA that is held in the first and
+  -- begun in the second is held in the second
   held_known : listed ≡ false → is_held S l ≡ true → is_begun T l ≡ true → is_held T l ≡ true
   held_known off held begun =
       let chained_left = chain_inside S U t.first.whole t.first.seated.once t.both.seated.once t.union.left l (held_begun S l held) in
@@ -238,12 +240,12 @@ module _ (S T U : List Fact) (v w : List ℕ) (t : AreTogether S T U v w) (l : I
       let nothing = none_sent sent None refl in
       in_none S T U v w t l nodes low high a b ∙ ap (λ o. absorbed (is_covered v l) (listed && (is_covered w l && true)) None o) (sym nothing)
 
-  -- what is absorbed is what the union has, where the first set has those of the second's purges that are not told, and all that
-  -- the second has about an LRA whose record is not sent
+  -- what is absorbed is what the union has, if the first set has those of the second's purges that
+  -- are not told, and all that the second has about an LRA whose record is not sent
   pub taken_part : cond (is_held U l) (Some (record_of nodes U l)) None ≡ absorbed (is_covered v l) (listed && (is_covered w l && not (is_held T l))) (cond (is_held S l) (Some (record_of nodes S l)) None) (cond sent (cond (is_held T l) (Some (record_of nodes T l)) None) None)
   taken_part = part_by (is_held S l) (is_held T l) refl refl
 
--- what is held has a number that a fact can have
+-- an LRA that is held has a number that a fact can have
 pub fact_number : (S : List Fact) (l : Id) → IsSettled S → is_held S l ≡ true → is_fact_number l.num ≡ true
 fact_number S l settled held =
     let begin = any_gives (begins l) S (held_begun S l held) in
@@ -254,7 +256,7 @@ fact_number S l settled held =
     by : (n : ℕ) → 1 ≤ n → n < 2 ^ 48 → is_fact_number n ≡ true
     by n some few = grind (arith, nat_tests)
 
--- so that what is absorbed doesn't go by its number
+-- so what is absorbed doesn't depend on its number
 pub guarded : (c g b held : Bool) (r : Record) (p : Option Record) → (held ≡ true → b ≡ true) → absorbed c (b && g) (cond held (Some r) None) p ≡ absorbed c g (cond held (Some r) None) p
 guarded c g b true r p e = ap (λ (x : Bool). absorbed c (x && g) (Some r) p) (e refl)
 guarded c g b false r None e = refl

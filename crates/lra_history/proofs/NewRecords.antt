@@ -28,7 +28,7 @@ use Rattle.lra_history.proofs.ListsWithOneMore.{none_found, filter_none, filter_
 use Rattle.lra_history.proofs.LeftAsItWas.{any_kept, any_gained, filter_kept, begun_lesser, held_kept, members_kept, decision_kept, stamps_gained}
 use Rattle.lra_history.proofs.Basics.{decision_names, false_from, giver_names, held_begun, in_left}
 
--- what a begin names: a parent that is begun at its home
+-- the begin names a parent that is begun at its home
 abbrev pub IsAbove : Fact → List Fact → Option Id → Type 0
 IsAbove f S parent = (p : Id) → parent ≡ Some p → (f.origin ≡ p.home) × (is_begun S p ≡ true)
 
@@ -43,7 +43,7 @@ not_begun_yet f S T more g k = false_from (begins (begun_by f) g) (λ e.
     let less = more.newest g k at.0 in
     omega (arith, less, at.1))
 
--- it was not begun
+-- the new LRA was not begun before
 pub new_unbegun : (f : Fact) (S T : List Fact) → IsMore f S T → is_begun S (begun_by f) ≡ false
 new_unbegun f S T more = none_found (begins (begun_by f)) S (λ g k. not_begun_yet f S T more g k)
 
@@ -118,7 +118,7 @@ new_place : (f : Fact) (S T : List Fact) → IsMore f S T → IsSettled S → (p
 new_place f S T more settled None home = refl
 new_place f S T more settled (Some p) home = ap (λ n. Some (record { number = p.num; slot = n })) (new_number f S T more settled p (home p refl))
 
--- it is not its own parent
+-- the new LRA is not its own parent
 not_own : (f : Fact) (S T : List Fact) → IsMore f S T → (parent : Option Id) (deadline : ℕ) → f.body ≡ Begin parent deadline → IsAbove f S parent → gives_number (begun_by f) f.body ≡ false
 not_own f S T more parent deadline body up = rw body (by parent up)
   where
@@ -158,7 +158,7 @@ begin_record f S T more settled nodes parent deadline body up =
     (new_stamps f S T more settled nodes parent deadline body)
     (new_members f S T more settled parent deadline body up)
 
--- It is held
+-- The new LRA is held
 
 all_join : (f : Fact) (xs ys : List Fact) → AllByRecursion NamesEarlier (xs ++ ys) → NamesEarlier f → AllByRecursion NamesEarlier (xs ++ f ∷ ys)
 all_join f [] ys h e = (e, h)
@@ -171,7 +171,7 @@ names_earlier f S T more parent deadline body up = rw body (by parent up)
     by None u = tt
     by (Some p) u = let h = u p refl in (sym h.0, begun_lesser f S T more p h.1 (sym h.0))
 
--- parents come first also with the new fact
+-- parents still come first with the new fact
 pub nested_more : (f : Fact) (S T : List Fact) → IsMore f S T → IsWhole S → (parent : Option Id) (deadline : ℕ) → f.body ≡ Begin parent deadline → IsAbove f S parent → AllByRecursion NamesEarlier T
 nested_more f S T more whole parent deadline body up =
     subst (AllByRecursion NamesEarlier) (sym more.is)
@@ -180,7 +180,7 @@ nested_more f S T more whole parent deadline body up =
 none_along : (S : List Fact) (l : Id) → is_held S l ≡ true → list_any (is_purged_root S) (chain S l) ≡ false
 none_along S l e = not_false _ (and_right (is_begun S l) _ e)
 
--- what a begin names: a parent that is held at its home
+-- the begin names a parent that is held at its home
 abbrev pub IsHeldAbove : Fact → List Fact → Option Id → Type 0
 IsHeldAbove f S parent = (p : Id) → parent ≡ Some p → (f.origin ≡ p.home) × (is_held S p ≡ true)
 

@@ -5,19 +5,19 @@ use Rattle.lra_forest.specs.declared.record.Member.{Member}
 use Rattle.lra_forest.specs.MembersByNumber.{numbered}
 use Rattle.lra_history.specs.Growth.{member_changed}
 
--- where there is one, it is replaced
+-- if there is a member at the place, it is replaced
 pub change_some : (g : Member → Member) (i : ℕ) (ms : List Member) (m : Member) → slice_get ms i ≡ Some m → member_changed g i ms ≡ set ms i (g m)
 change_some g i [] m e = absurd cc
 change_some g zero (x ∷ ms) m e = let same : x ≡ m = cc in ap (λ (y : Member). g y ∷ ms) same
 change_some g (suc i) (x ∷ ms) m e = ap (λ (ys : List Member). x ∷ ys) (change_some g i ms m e)
 
--- where there is none, they stay
+-- if there is none, the members stay as they are
 pub change_none : (g : Member → Member) (i : ℕ) (ms : List Member) → slice_get ms i ≡ None → member_changed g i ms ≡ ms
 change_none g i [] e = refl
 change_none g zero (x ∷ ms) e = absurd cc
 change_none g (suc i) (x ∷ ms) e = ap (λ (ys : List Member). x ∷ ys) (change_none g i ms e)
 
--- numbers go from 1
+-- member numbers start at 1
 pub numbered_is : (ms : List Member) (m : ℕ) → 1 ≤ m → numbered ms m ≡ slice_get ms (m - 1)
 numbered_is ms m some = by (m == 0) refl
   where

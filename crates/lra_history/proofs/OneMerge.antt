@@ -36,7 +36,7 @@ named l r e f = grind (arith, nat_tests)
 name_is : (l : Id) (r : Record) → is_of l r ≡ true → id_of r ≡ l
 name_is l r e = ap (λ (k : ℕ). record { home = k; num = r.num }) (name_home l r e) ∙ ap (λ (k : ℕ). record { home = l.home; num = k }) (name_num l r e)
 
--- a record of the same name as another has the same names
+-- if two records have the same name, a test for a name gives the same for both
 same_name : (l : Id) (r s : Record) → is_of (id_of r) s ≡ true → is_of l s ≡ is_of l r
 same_name l r s e =
     ap (λ (k : ℕ). (k == l.home) && (s.num == l.num)) (name_home (id_of r) s e) ∙ ap (λ (k : ℕ). (r.home == l.home) && (k == l.num)) (name_num (id_of r) s e)
@@ -86,7 +86,7 @@ taken_are_of a b home [] h = record { homes = tt; ascending = tt }
 taken_are_of a b home (r ∷ rs) h =
     put_some_are_of home (merged_of a b (id_of r)) (all_merged a b rs) (λ s e. name_home (id_of r) s (taken_is a b (id_of r) s e) ∙ h.0) (taken_are_of a b home rs h.1)
 
--- of an LRA with a record in the list just what is absorbed is found
+-- the lookup finds exactly what is absorbed of an LRA that has a record in the list
 taken_found : (a b : View) (home : ℕ) (rs : List Record) (l : Id) → AllByRecursion (λ (r : Record). r.home ≡ home) rs → find (is_of l) (all_merged a b rs) ≡ cond (list_any (is_of l) rs) (merged_of a b l) None
 taken_found a b home [] l h = refl
 taken_found a b home (r ∷ rs) l h = by (merged_of a b (id_of r)) refl (taken_found a b home rs l h.1)
@@ -151,7 +151,7 @@ module _ (a b : View) (nodes : length a.front ≡ length b.front) (own : IsInOrd
           let gone = is_fact_number l.num && is_covered b.front l in
           sym (ap (λ o. absorbed (is_covered a.front l) gone o (record_at b l)) left ∙ ap (absorbed (is_covered a.front l) gone None) right)
 
-  -- the merge of two views in order that count the same nodes is one
+  -- `merged a b` is a merge of two views in order that count the same nodes
   pub merge_is : IsMerged a b (merged a b)
   merge_is =
       let size = length_join a.front b.front nodes in
@@ -182,6 +182,6 @@ one_merge a b c d m n =
     same_views c d fronts (m.purges ∙ sym n.purges)
     (same_homes (length c.front) c.records d.records m.homes (n.homes ∙ sym nodes) (λ home low high. one_home a b c d home m n low high (omega (arith, high, nodes))))
 
--- what is a merge of two views in order is the merge
+-- any merge of two views in order is `merged a b`
 pub merge_only : (a b c : View) → IsInOrder a → IsInOrder b → IsMerged a b c → c ≡ merged a b
 merge_only a b c own other m = one_merge a b c (merged a b) m (merge_is a b m.nodes own other)

@@ -1,4 +1,4 @@
--- a history with one entry more
+-- a history with one more entry
 use Rattle.std.proofs.Common.{◌≡◌, ◌⊎◌, inl, inr, ◌≤◌, ◌<◌, ◌+◌, ◌-◌, ℕ, zero, suc, List, [], ◌∷◌, ◌++◌, refl, sym, ap, subst, ◌∙◌, Bool, true, false, cond, arith, append_assoc, filter, length, map, get_or, get_or-set_other, get_or-set_same, nat_le, slice_set}
 use Rattle.std.proofs.lemmas.Bool.Decides.{nat_tests}
 use Rattle.std.proofs.lemmas.List.{length-append, length-set, map-append}
@@ -21,7 +21,7 @@ use Rattle.lra_history.proofs.Basics.{in_left, in_right, same_or_not}
 
 -- Where the new entry stands
 
--- a list with one element more, somewhere in it
+-- a list with one more element somewhere in it
 record HasMore (x : Made) (was is : List Made) : Type 0 where
   before : List Made
   after : List Made
@@ -81,7 +81,7 @@ more_made h node e some there =
     subst (λ (n : ℕ). HasMore (made_as n (length (entries_of h node) + 1) e) (made h) (made (with_entry h node e))) same
     (more_from 1 (node - 1) h e (omega (arith, some, there)))
 
--- an entry of the longer history was there, or is the new one
+-- an entry of the longer history was there before, or is the new one
 old_or_new : (h : History) (node : ℕ) (e : Entry) → 1 ≤ node → node ≤ length h → (x : Made) → In x (made (with_entry h node e)) → In x (made h) ⊎ (x ≡ new_of h node e)
 old_or_new h node e some there x m =
     let more = more_made h node e some there in
@@ -92,7 +92,7 @@ old_or_new h node e some there x m =
       | inr (inr last) ↦ inl (was (in_right more.before more.after x last))
     ]
 
--- it has as many nodes
+-- the longer history has as many nodes
 pub length_with : (h : History) (node : ℕ) (e : Entry) → length (with_entry h node e) ≡ length h
 length_with h node e = length-set h (node - 1) (entries_of h node ++ e ∷ [])
 
@@ -138,7 +138,7 @@ below_raised v node = λ n. by v (node - 1) (n - 1)
     by (a ∷ v) (suc i) zero = omega arith
     by (a ∷ v) (suc i) (suc k) = by v i k
 
--- of the facts that were there, it counts those that were counted
+-- of the facts that were there, the raised front counts those that were counted
 counted_before : (h : History) (v : List ℕ) (node : ℕ) → 1 ≤ node → node ≤ length v → count v node ≡ length (entries_of h node)
     → (x : Made) → In x (made h) → is_counted (raised v node) x.fact ≡ is_counted v x.fact
 counted_before h v node some there own x m =
@@ -160,7 +160,7 @@ new_uncounted h u node e closed = beyond (length (entries_of h node)) (count u n
 parts : (p : Fact → Bool) (before after : List Made) → filter p (map fact_of (before ++ after)) ≡ filter p (map fact_of before) ++ filter p (map fact_of after)
 parts p before after = ap (filter p) (map-append fact_of before after) ∙ filter-append p (map fact_of before) (map fact_of after)
 
--- the set of a front that is closed in the history stays as it is
+-- the set of a front that is closed in the shorter history stays the same
 pub unmoved : (h : History) (u : List ℕ) (node : ℕ) (e : Entry) → 1 ≤ node → node ≤ length h → IsClosed h u → facts (with_entry h node e) u ≡ facts h u
 unmoved h u node e some there closed =
     let more = more_made h node e some there in
@@ -183,7 +183,7 @@ closed_still h u node e some there closed =
       within = λ n. omega (arith, closed.within n, entries_with h node n e some there);
     }
 
--- and that of another node has all that the other entered
+-- and the front of another node still has all that the other node entered
 pub current_still : (h : History) (node other : ℕ) (u : List ℕ) (e : Entry) → 1 ≤ node → node ≤ length h → IsCurrent h other u → (other ≡ node → ⊥) → IsCurrent (with_entry h node e) other u
 current_still h node other u e some there current apart =
     let places : other - 1 ≡ node - 1 → ⊥ = λ same. apart (omega (arith, same, some, current.some)) in
@@ -194,7 +194,8 @@ current_still h node other u e some there current apart =
       own = current.own ∙ ap (λ (es : List Entry). length es) (sym (get_or-set_other h (node - 1) (other - 1) (entries_of h node ++ e ∷ []) [] places));
     }
 
--- the set of a front that has all that the node entered, and that of the front with one more of the node, are one fact apart
+-- the set of a front that has all that the node entered, and the set of that front raised by one
+-- for the node, are one fact apart
 pub one_more : (h : History) (v : List ℕ) (node : ℕ) (e : Entry) → 1 ≤ node → node ≤ length h → IsClosed h v → count v node ≡ length (entries_of h node)
     → IsMore (record { origin = node; num = count v node + 1; body = e.body }) (facts h v) (facts (with_entry h node e) (raised v node))
 one_more h v node e some there closed own =
@@ -225,7 +226,7 @@ one_more h v node e some there closed own =
         let found = map_in fact_of ms f m in
         subst (λ (g : Fact). is_counted w g ≡ is_counted v g) (sym found.2) (agree found.0 found.1))
 
--- that front has all that the node entered then
+-- the raised front has all that the node has then entered
 pub own_with : (h : History) (v : List ℕ) (node : ℕ) (e : Entry) → 1 ≤ node → node ≤ length h → IsClosed h v → count v node ≡ length (entries_of h node) → count (raised v node) node ≡ length (entries_of (with_entry h node e) node)
 own_with h v node e some there closed own =
     let at : node - 1 < length h = omega (arith, some, there) in
@@ -233,7 +234,7 @@ own_with h v node e some there closed own =
     rw (get_or-set_same h (node - 1) (entries_of h node ++ e ∷ []) [] at)
     (omega (arith, raised_here v node some short, own, length-append (entries_of h node) (e ∷ [])))
 
--- that front is closed in the longer history, where the node kept the front that was raised
+-- the raised front is closed in the longer history, if the node kept the front that was raised
 pub closed_with : (h : History) (v : List ℕ) (node : ℕ) (e : Entry) → 1 ≤ node → node ≤ length h → IsClosed h v → count v node ≡ length (entries_of h node) → e.front ≡ v → IsClosed (with_entry h node e) (raised v node)
 closed_with h v node e some there closed own front =
     let short : node ≤ length v = omega (arith, there, closed.nodes) in
@@ -255,7 +256,7 @@ closed_with h v node e some there closed own front =
       ];
     }
 
--- with one lawful entry more a history stays lawful
+-- a history stays lawful with one more lawful entry
 pub lawful_with : (h : History) (v : List ℕ) (node : ℕ) (e : Entry) → 1 ≤ node → node ≤ length h → IsClosed h v → count v node ≡ length (entries_of h node) → IsLawful h → e.front ≡ v → IsLawfulBody (facts h v) v node e.body → IsLawful (with_entry h node e)
 lawful_with h v node e some there closed own lawful front body =
     record {
@@ -284,7 +285,7 @@ lawful_with h v node e some there closed own lawful front body =
           lawful = subst (λ (S : List Fact). IsLawfulBody S v node e.body) (sym (unmoved h v node e some there closed)) body;
         }
 
--- what is entered for a command that is accepted is lawful
+-- what is entered for an accepted command is lawful
 pub accepted_lawful : (S : List Fact) (v : List ℕ) (node : ℕ) (c : Command) → judge S v node c ≡ Accepted → IsLawfulBody S v node (body_for S c)
 accepted_lawful S v node c taken =
     record {

@@ -1,4 +1,4 @@
--- a set has one front of so many nodes, and one view
+-- a set has one front of a given number of nodes, and one view
 use Rattle.std.proofs.Common.{◌≡◌, ◌≤◌, ◌+◌, ◌-◌, ℕ, zero, suc, List, [], refl, sym, ap, subst, ◌∙◌, arith, length, map, get_or}
 use Rattle.std.proofs.lemmas.Grind.{same_number_lists}
 use Rattle.std.proofs.lemmas.List.{get_or_default, same_lists}
@@ -9,7 +9,7 @@ use Rattle.lra_forest.specs.Records.{nodes_to}
 use Rattle.lra_forest.proofs.OneListOfRecords.{one_view as one_list}
 use Rattle.lra_history.specs.Views.{AreRecords, IsCounted, StandsFor, View, purge_number, records_at}
 
--- a front that counts the set counts no more of a node than another that counts it
+-- a front that counts the set counts no more of a node than any other front that counts it
 counts_below : (S : List Fact) (a b : List ℕ) → IsCounted S a → IsCounted S b → (i : ℕ) → get_or a i 0 ≤ get_or b i 0
 counts_below S a b left right i = by (get_or a i 0) refl
   where
@@ -21,12 +21,12 @@ counts_below S a b left right i = by (get_or a i 0) refl
         let last = left.all (i + 1) (suc n) (omega arith) (omega arith) reached in
         omega (arith, right.counted last.0 last.1, some, last.3, ap (count b) last.2, ap (λ (k : ℕ). get_or b k 0) place)
 
--- a set has one front of so many nodes
+-- a set has one front of a given number of nodes
 pub one_front : (S : List Fact) (a b : List ℕ) → length a ≡ length b → IsCounted S a → IsCounted S b → a ≡ b
 one_front S a b nodes left right =
     same_number_lists a b nodes (λ i there. omega (arith, counts_below S a b left right i, counts_below S b a right left i))
 
--- lists of so many homes are equal where each home's records are
+-- two lists of the records of the same number of homes are equal if the records of each home are
 pub same_homes : (nodes : ℕ) (xs ys : List (List Record)) → length xs ≡ nodes → length ys ≡ nodes → ((home : ℕ) → 1 ≤ home → home ≤ nodes → records_at xs home ≡ records_at ys home) → xs ≡ ys
 same_homes nodes xs ys long as_long same =
     same_lists xs ys (long ∙ sym as_long) (λ i d there.
@@ -54,7 +54,7 @@ one_forest : (S : List Fact) (nodes : ℕ) (xs ys : List (List Record)) → leng
 one_forest S nodes xs ys long as_long left right =
     same_homes nodes xs ys long as_long (λ home low high. one_home S nodes home (records_at xs home) (records_at ys home) (left home low high) (right home low high))
 
--- a set has one view of so many nodes
+-- a set has one view of a given number of nodes
 pub one_view : (S : List Fact) (a b : View) → length a.front ≡ length b.front → StandsFor S a → StandsFor S b → a ≡ b
 one_view S a b nodes left right =
     let fronts : a.front ≡ b.front = one_front S a.front b.front nodes left.front right.front in

@@ -1,4 +1,5 @@
--- a patch that adds a command's fact, in the history with that entry, and the history without entries
+-- a patch that adds a command's fact, in the history with that entry, and the history without
+-- entries
 use Rattle.std.proofs.Common.{◌≡◌, ◌≤◌, ◌+◌, ◌-◌, ℕ, zero, suc, List, [], refl, sym, ap, subst, ◌∙◌, arith, filter, get_or, length, map, replicate, Some}
 use Rattle.std.proofs.lemmas.List.{length-replicate}
 use Rattle.lra_facts.specs.declared.fact.Fact.{Fact}
@@ -41,7 +42,7 @@ view_with h node v view c change at front adds =
           stands = adds.2 (facts (with_entry h node e) (raised v node)) (one_more h v node e current.some current.there current.closed current.own);
         }
 
--- and its front is the one that was raised
+-- and its front is the raised one
 pub front_with : (h : History) (node : ℕ) (v : List ℕ) (view : View) (c : Command) (change : Change) → view.front ≡ v → AddsFact (facts h v) view node c (Some change) → change.front ≡ raised v node
 front_with h node v view c change front adds = adds.1 ∙ ap (λ (u : List ℕ). raised u node) front
 
@@ -56,7 +57,8 @@ no_entries zero i = refl
 no_entries (suc n) zero = refl
 no_entries (suc n) (suc i) = no_entries n i
 
--- it is lawful, and a front of zeros is current in it, with the view of no facts
+-- the history without entries is lawful, and a front of zeros is current in it, with the view of no
+-- facts
 pub empty_view_in : (nodes node : ℕ) → 1 ≤ node → node ≤ nodes → IsViewIn (replicate nodes []) node (replicate nodes 0) (empty_view nodes)
 empty_view_in nodes node some there =
     record {

@@ -39,9 +39,9 @@ use Rattle.lra_history.proofs.StaysSettled.{settled_with}
 use Rattle.lra_history.proofs.FactsOfMembers.{participant_given}
 use Rattle.lra_history.proofs.Basics.{at_most, held_begun, same_or_not}
 
--- Homes of which one changes
+-- Lists of homes of which one changes
 
--- the records of one home become these, and those of all others stay
+-- the records of one home become these, and the records of all others stay
 pub record ChangesHome (before after : List (List Record)) (home : ℕ) (records : List Record) : Type 0 where
   pub size : length after ≡ length before
   pub here : records_at after home ≡ records
@@ -60,7 +60,7 @@ put_changes r homes home at some there =
     subst (λ (h : ℕ). ChangesHome homes (put_at_home r homes) h (put_record r (records_at homes h))) at
     (set_changes homes r.home (put_record r (records_at homes r.home)) (omega (arith, at, some)) (omega (arith, at, there)))
 
--- two records of one home, one after the other
+-- two records of one home are put, one after the other
 put_two_changes : (r q : Record) (homes : List (List Record)) (home : ℕ) → r.home ≡ home → q.home ≡ home → 1 ≤ home → home ≤ length homes
     → ChangesHome homes (put_at_home q (put_at_home r homes)) home (put_record q (put_record r (records_at homes home)))
 put_two_changes r q homes home at_r at_q some there =
@@ -74,7 +74,7 @@ put_two_changes r q homes home at_r at_q some there =
 
 -- What a view has of an LRA
 
--- what is held has a home from 1 on
+-- an LRA that is held has a home from 1 on
 pub held_home : (S : List Fact) (view : View) (l : Id) → StandsFor S view → is_held S l ≡ true → 1 ≤ l.home
 held_home S view l stands held =
     let found = any_gives (begins l) S (held_begun S l held) in
@@ -82,13 +82,13 @@ held_home S view l stands held =
     let some = stands.front.some found.0 found.1 in
     omega (arith, some.0, at.0)
 
--- the record that a view has of an LRA is the set's, its home is one of the nodes, and it is held
+-- the record that a view has of an LRA is the set's; its home is one of the nodes, and it is held
 pub record FoundRecord (S : List Fact) (view : View) (l : Id) (old : Record) : Type 0 where
   pub there : l.home ≤ length view.front
   pub held : is_held S l ≡ true
   pub is : old ≡ record_of (length view.front) S l
 
--- so it is where one is found
+-- a record that is found is such a record
 pub found_record : (S : List Fact) (view : View) (l : Id) (old : Record) → StandsFor S view → 1 ≤ l.home → record_at view l ≡ Some old → FoundRecord S view l old
 found_record S view l old stands some at = elim (at_most l.home (length view.front)) [
   | inl there ↦ by there (is_held S l) refl (sym at ∙ (stands.records l.home some there).stands l refl)
@@ -101,7 +101,8 @@ found_record S view l old stands some at = elim (at_most l.home (length view.fro
 
 -- A fact that changes the records of one home
 
--- the view of which one home changes stands for the set with one more fact, where the records of all homes do
+-- the view of which one home changes stands for the set with one more fact, if the records of all
+-- homes do
 home_stands : (S T : List Fact) (view : View) (me : ℕ) (c : Command) (home : ℕ) (after : List (List Record)) (purges : List ℕ) (records : List Record) → StandsFor S view → 1 ≤ me → me ≤ length view.front → IsMore (next_fact S view.front me c) S T
     → purges ≡ map (purge_number T) (nodes_to (length view.front)) → ChangesHome view.records after home records → AreRecords (length view.front) T home records
     → ((k : ℕ) → (k ≡ home → ⊥) → AreRecords (length view.front) S k (records_at view.records k) → AreRecords (length view.front) T k (records_at view.records k))
@@ -139,7 +140,7 @@ home_adds S view me c put records settled stands some there taken plain changes 
       (length view.front) k (records_at view.records k) (λ e. other (sym e))),
 )
 
--- where it changes the record of an LRA
+-- the same, if the fact changes the record of one LRA
 one_adds : (S : List Fact) (view : View) (me : ℕ) (c : Command) (l : Id) (old next : Record) → IsSettled S → StandsFor S view → 1 ≤ me → me ≤ length view.front → judge S view.front me c ≡ Accepted → is_purge_fact (body_for S c) ≡ false
     → touched_home me (body_for S c) ≡ l.home → is_held S l ≡ true → record_at view l ≡ Some old → next ≡ record_after (next_fact S view.front me c) old
     → ((T : List Fact) → IsMore (next_fact S view.front me c) S T → (records : List Record) → AreRecords (length view.front) S l.home records
@@ -165,7 +166,7 @@ join_adds S view me l links old next settled stands some there taken at is =
     one_adds S view me (JoinAsked l links) l old next settled stands some there taken refl refl given.0.held at is (λ T more records are.
     join_stands (next_fact S view.front me (JoinAsked l links)) S T more settled (length view.front) l (numbers_given S l + 1) links records refl (sym given.0.home) refl given.0.held are)
 
--- a leave's fact by a change of the record of the LRA that is left
+-- a leave's fact is added by a change of the record of the LRA that is left
 pub leave_adds : (S : List Fact) (view : View) (me : ℕ) (l : Id) (m : ℕ) (old next : Record) → IsSettled S → StandsFor S view → 1 ≤ me → me ≤ length view.front → judge S view.front me (LeaveAsked l m) ≡ Accepted
     → record_at view l ≡ Some old → next ≡ record_after (next_fact S view.front me (LeaveAsked l m)) old → AddsFact S view me (LeaveAsked l m) (Some (one_change view me next))
 leave_adds S view me l m old next settled stands some there taken at is =
@@ -174,7 +175,7 @@ leave_adds S view me l m old next settled stands some there taken at is =
     one_adds S view me (LeaveAsked l m) l old next settled stands some there taken refl refl given.0.held at is (λ T more records are.
     leave_stands (next_fact S view.front me (LeaveAsked l m)) S T more settled (length view.front) l m records refl number.0 given.0.held are)
 
--- a decision's fact by a change of the record of the LRA that is closed or cancelled
+-- a decision's fact is added by a change of the record of the LRA that is closed or cancelled
 pub decide_adds : (S : List Fact) (view : View) (me : ℕ) (l : Id) (verdict : Verdict) (old next : Record) → IsSettled S → StandsFor S view → 1 ≤ me → me ≤ length view.front → judge S view.front me (DecideAsked l verdict) ≡ Accepted
     → record_at view l ≡ Some old → next ≡ record_after (next_fact S view.front me (DecideAsked l verdict)) old → AddsFact S view me (DecideAsked l verdict) (Some (one_change view me next))
 decide_adds S view me l verdict old next settled stands some there taken at is =
@@ -182,7 +183,7 @@ decide_adds S view me l verdict old next settled stands some there taken at is =
     one_adds S view me (DecideAsked l verdict) l old next settled stands some there taken refl refl given.held at is (λ T more records are.
     decide_stands (next_fact S view.front me (DecideAsked l verdict)) S T more settled (length view.front) l verdict records refl given.held given.active are)
 
--- a report's fact by a change of the record of the LRA whose participant it is of
+-- a report's fact is added by a change of the record of the LRA whose participant it is about
 pub report_adds : (S : List Fact) (view : View) (me : ℕ) (l : Id) (m : ℕ) (act : Act) (outcome : Outcome) (old next : Record) → IsSettled S → StandsFor S view → 1 ≤ me → me ≤ length view.front → judge S view.front me (ReportAsked l m act outcome) ≡ Accepted
     → record_at view l ≡ Some old → next ≡ record_after (next_fact S view.front me (ReportAsked l m act outcome)) old → AddsFact S view me (ReportAsked l m act outcome) (Some (one_change view me next))
 report_adds S view me l m act outcome old next settled stands some there taken at is =
@@ -191,7 +192,8 @@ report_adds S view me l m act outcome old next settled stands some there taken a
     one_adds S view me (ReportAsked l m act outcome) l old next settled stands some there taken refl refl given.0.held at is (λ T more records are.
     report_stands (next_fact S view.front me (ReportAsked l m act outcome)) S T more settled (length view.front) l m act outcome records refl number.0 given.0.held are)
 
--- a forgot's fact by a change of the record of the LRA whose participant was told
+-- a forgot's fact is added by a change of the record of the LRA whose participant was told to
+-- forget
 pub forgot_adds : (S : List Fact) (view : View) (me : ℕ) (l : Id) (m : ℕ) (old next : Record) → IsSettled S → StandsFor S view → 1 ≤ me → me ≤ length view.front → judge S view.front me (ForgotAsked l m) ≡ Accepted
     → record_at view l ≡ Some old → next ≡ record_after (next_fact S view.front me (ForgotAsked l m)) old → AddsFact S view me (ForgotAsked l m) (Some (one_change view me next))
 forgot_adds S view me l m old next settled stands some there taken at is =
@@ -200,7 +202,7 @@ forgot_adds S view me l m old next settled stands some there taken at is =
     one_adds S view me (ForgotAsked l m) l old next settled stands some there taken refl refl given.0.held at is (λ T more records are.
     forgot_stands (next_fact S view.front me (ForgotAsked l m)) S T more settled (length view.front) l m records refl number.0 given.0.held are)
 
--- a told's fact by a change of the record of the LRA whose participant heard of its end
+-- a told's fact is added by a change of the record of the LRA whose participant heard of its end
 pub told_adds : (S : List Fact) (view : View) (me : ℕ) (l : Id) (m : ℕ) (old next : Record) → IsSettled S → StandsFor S view → 1 ≤ me → me ≤ length view.front → judge S view.front me (ToldAsked l m) ≡ Accepted
     → record_at view l ≡ Some old → next ≡ record_after (next_fact S view.front me (ToldAsked l m)) old → AddsFact S view me (ToldAsked l m) (Some (one_change view me next))
 told_adds S view me l m old next settled stands some there taken at is =
@@ -221,7 +223,7 @@ root_adds S view me deadline next settled stands some there taken is =
     (λ T more. subst (λ (r : Record). AreRecords (length view.front) T me (put_record r (records_at view.records me))) (sym is)
     (root_stands (next_fact S view.front me (BeginAsked None deadline)) S T more settled (length view.front) deadline (records_at view.records me) refl (stands.records me some there)))
 
--- the same, without the set in what is said of the record
+-- the same, without mention of the set in what is said of the record
 pub plain_root_adds : (S : List Fact) (view : View) (me deadline : ℕ) (next : Record) → IsSettled S → StandsFor S view → 1 ≤ me → me ≤ length view.front → judge S view.front me (BeginAsked None deadline) ≡ Accepted
     → next ≡ record {
       home = me;
@@ -241,7 +243,8 @@ given_members S view l old settled stands some at =
     ∙ length-map (givers S l) (λ (f : Fact). member_by S l f.num f.body)
     ∙ givers_length S l
 
--- the fact that begins a nested LRA, by a change of the parent's record, and then putting in the new one
+-- the fact that begins a nested LRA is added by a change of the parent's record, and then by
+-- putting in the new one
 pub nested_adds : (S : List Fact) (view : View) (me : ℕ) (p : Id) (deadline : ℕ) (old next child : Record) → IsSettled S → StandsFor S view → 1 ≤ me → me ≤ length view.front → judge S view.front me (BeginAsked (Some p) deadline) ≡ Accepted
     → record_at view p ≡ Some old → next ≡ record_after (next_fact S view.front me (BeginAsked (Some p) deadline)) old
     → child ≡ record {
@@ -345,7 +348,7 @@ some_found t (x ∷ records) r m e = by (t x) refl m (some_found t records r)
     by false s (inl same) rest = absurd (let wrong : t x ≡ true = ap t (sym same) ∙ e in cc)
     by false s (inr m) rest = rest m e
 
--- what a removal leaves at the root's home is what is not under the root
+-- a removal leaves at the root's home the records that are not under the root
 removal_leaves : (S : List Fact) (view : View) (root : Id) (removed : List Id) → AreRecords (length view.front) S root.home (records_at view.records root.home) → IsRemoval S view root removed
     → filter (λ r. not (list_any (λ l. is_of l r) removed)) (records_at view.records root.home) ≡ without_tree S root (records_at view.records root.home)
 removal_leaves S view root removed are removal =

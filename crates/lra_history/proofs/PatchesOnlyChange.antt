@@ -71,7 +71,7 @@ puts view rs ascends new home =
       apart = tt;
     }
 
--- One that is new
+-- A record that is new
 
 -- the LRA of a node's next fact has no record
 fresh_new : (S : List Fact) (view : View) (me : ℕ) (next : Record) → StandsFor S view → 1 ≤ me → next.home ≡ me → next.num ≡ count view.front me + 1 → IsThere view next → ⊥
@@ -83,7 +83,7 @@ fresh_new S view me next stands one home num at =
     let same : count view.front begin.0.origin ≡ count view.front me = ap (count view.front) (is.0 ∙ home) in
     omega (arith, counted, same, is.1, num)
 
--- and no record has that fact's number as its stamp
+-- and no record has that fact's number as a stamp
 stamped_new : (S : List Fact) (view : View) (me : ℕ) (l : Id) (old next : Record) → IsSettled S → StandsFor S view → 1 ≤ me → me ≤ length view.front → 1 ≤ l.home → record_at view l ≡ Some old
     → id_of next ≡ id_of old → next.stamps ≡ stamped me (count view.front me + 1) old.stamps → IsThere view next → ⊥
 stamped_new S view me l old next settled stands one within some at id stamps there =
@@ -101,7 +101,7 @@ stamped_new S view me l old next settled stands one within some at id stamps the
 -- What a command changes
 
 module _ (S : List Fact) (view : View) (me : ℕ) (settled : IsSettled S) (stands : StandsFor S view) (one : 1 ≤ me) (within : me ≤ length view.front) where
-  -- one record
+  -- one record is changed
   one_only : (c : Command) (l : Id) → 1 ≤ l.home → HoldsOnlyChanges view (change_record view me c l)
   one_only c l some = by (record_at view l) refl
     where
@@ -109,7 +109,7 @@ module _ (S : List Fact) (view : View) (me : ℕ) (settled : IsSettled S) (stand
       by None e = puts view [] tt tt
       by (Some r) e = puts view (record_after (next_fact_on view me c) r ∷ []) (tt, tt) (stamped_new S view me l r (record_after (next_fact_on view me c) r) settled stands one within some e refl refl, tt)
 
-  -- the parent's, and one for the LRA that is begun
+  -- the parent's record is changed, and one is put for the LRA that is begun
   two_only : (p : Id) (deadline : ℕ) → 1 ≤ p.home → p.home ≡ me → HoldsOnlyChanges view (change_on view me (Begin (Some p) deadline))
   two_only p deadline some own = by (record_at view p) refl
     where
@@ -135,7 +135,7 @@ module _ (S : List Fact) (view : View) (me : ℕ) (settled : IsSettled S) (stand
           puts view (record_after (next_fact_on view me c) r ∷ fresh ∷ []) ((lesser r e, tt), (tt, tt))
           (stamped_new S view me p r (record_after (next_fact_on view me c) r) settled stands one within some e refl refl, (fresh_new S view me fresh stands one refl refl, tt))
 
-  -- the LRAs under a root
+  -- the LRAs under a root are removed
   removed_only : (root : Id) → 1 ≤ root.home → root.home ≤ length view.front → HoldsOnlyChanges view (change_on view me (Purge root))
   removed_only root some there home = by (root.home == home) refl
     where

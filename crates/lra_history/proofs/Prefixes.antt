@@ -1,23 +1,26 @@
 -- lists of facts in order of their numbers, one of which is the first part of the other
--- Sorted by number two lists with the same facts are equal, and of one whose further facts are all
--- greater the other is a first part. That replaces each induction over a history's own list
+--
+-- Two lists sorted by number with the same facts are equal. If the further facts of one list are
+-- all greater, the other list is its first part. That replaces each induction over a history's own
+-- list
 use Rattle.std.proofs.Common.{◌≡◌, ◌⊎◌, inl, inr, ◌<◌, List, [], ◌∷◌, ◌++◌, refl, sym, ap, ◌∙◌, arith}
 use Rattle.lra_facts.specs.declared.fact.Fact.{Fact}
 use Rattle.lra_facts.specs.Lists.{In, IsInside}
 use Rattle.lra_forest.proofs.Bools.{all_in}
 use Rattle.lra_forest.proofs.GiversOfNumbers.{Ascend}
 
--- the fact has a greater number than each of the list
+-- the fact has a greater number than each fact of the list
 abbrev pub IsBeyond : Fact → List Fact → Type 0
 IsBeyond f ys = (g : Fact) → In g ys → g.num < f.num
 
--- xs is ys and then others
+-- xs is ys followed by others
 pub record IsLonger (xs ys : List Fact) : Type 0 where
   pub rest : List Fact
   pub is : xs ≡ ys ++ rest
   pub others : (f : Fact) → In f rest → In f xs × IsBeyond f ys
 
--- each has its first element first, if each element of the one is in the other and those that it lacks are beyond it
+-- two lists have the same first element, if each element of the second is in the first and those
+-- that it lacks are beyond it
 same_first : (x y : Fact) (xs ys : List Fact) → Ascend (x ∷ xs) → Ascend (y ∷ ys) → In y (x ∷ xs) → In x (y ∷ ys) ⊎ IsBeyond x (y ∷ ys) → x ≡ y
 same_first x y xs ys ax ay (inl s) b = sym s
 same_first x y xs ys ax ay (inr n) (inl (inl s)) = s
@@ -26,7 +29,8 @@ same_first x y xs ys ax ay (inr n) (inl (inr m)) =
 same_first x y xs ys ax ay (inr n) (inr far) =
     absurd (omega (arith, all_in (λ (z : Fact). x.num < z.num) xs ax.0 y n, far y (inl refl)))
 
--- the first list is the other and then more, if each of the other is in it, and what it has alone has greater numbers
+-- the first list is the second followed by more, if each fact of the second is in it, and those
+-- that it alone has have greater numbers
 pub longer : (xs ys : List Fact) → Ascend xs → Ascend ys → IsInside ys xs → ((f : Fact) → In f xs → In f ys ⊎ IsBeyond f ys) → IsLonger xs ys
 longer xs [] ax ay inside more = record { rest = xs; is = refl; others = λ f m. (m, λ g k. absurd k) }
 longer [] (y ∷ ys) ax ay inside more = absurd (inside y (inl refl))

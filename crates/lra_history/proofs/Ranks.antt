@@ -1,4 +1,4 @@
--- ranks of statuses, by what is wanted and by tests
+-- ranks of statuses, given what is wanted and some tests
 use mathlib.Core.Bool.{not}
 use Rattle.std.proofs.Common.{◌≡◌, ◌⊎◌, inl, inr, ◌≤◌, ◌&&◌, ℕ, refl, Bool, true, false, cond, arith, Option, Some, None, is_some}
 use Rattle.lra_id.specs.States.{compensating, completing, level, rank, rank_of, same_member_status, shown}
@@ -12,9 +12,9 @@ use Rattle.lra_id.specs.declared.outcome.Verdict.TheVariants.{Close, Cancel}
 use Rattle.lra_facts.specs.Links.{Links}
 use Rattle.lra_facts.specs.Sets.{is_open, status_by}
 
--- Participants, with more heard of them
+-- Participants of which more is heard
 
--- where no less is heard, one that is open was open
+-- if no less is heard, a participant that is open was open before
 pub stays_final : (x : Option Verdict) (links : Links) (a b c d : Option Outcome) → level a ≤ level c → level b ≤ level d → is_open (status_by x links c d) ≡ true → is_open (status_by x links a b) ≡ true
 stays_final None links a b c d p q e = refl
 stays_final (Some Close) links a b c d p q e = closing (is_some links.complete) a c p e
@@ -46,7 +46,7 @@ stays_final (Some Cancel) links a b c d p q e = cancelling (is_some links.compen
     cancelling true (Some Failed) (Some Done) q e = absurd (omega arith)
     cancelling true (Some Failed) (Some Failed) q e = e
 
--- one that failed to complete stays so
+-- a participant that failed to complete stays so
 pub stays_incomplete : (x : Option Verdict) (links : Links) (a b c d : Option Outcome) → level a ≤ level c → same_member_status FailedToComplete (status_by x links a b) ≡ true → same_member_status FailedToComplete (status_by x links c d) ≡ true
 stays_incomplete None links a b c d p e = absurd cc
 stays_incomplete (Some Close) links a b c d p e = closing (is_some links.complete) a c p e
@@ -69,7 +69,7 @@ stays_incomplete (Some Cancel) links a b c d p e = absurd (never (is_some links.
     never true (Some Done) e = cc
     never true (Some Failed) e = cc
 
--- and so does one that failed to compensate
+-- and so does a participant that failed to compensate
 pub stays_uncompensated : (x : Option Verdict) (links : Links) (a b c d : Option Outcome) → level b ≤ level d → same_member_status FailedToCompensate (status_by x links a b) ≡ true → same_member_status FailedToCompensate (status_by x links c d) ≡ true
 stays_uncompensated None links a b c d p e = absurd cc
 stays_uncompensated (Some Close) links a b c d p e = closing (is_some links.complete) a e
@@ -94,7 +94,8 @@ stays_uncompensated (Some Cancel) links a b c d p e = cancelling (is_some links.
 
 -- What is wanted, by tests for a Cancel and a Close
 
--- where there is a Cancel with the one tests just if there is with the others, and some verdict, the same is wanted
+-- if both pairs of tests agree on whether there is a Cancel, and on whether there is a verdict, the
+-- same is wanted
 pub wants_alike : (c k later_c later_k : Bool) → (c ≡ true → later_c ≡ true) → (later_c ≡ true → c ≡ true) → (k ≡ true → later_k ≡ true) → (c ≡ true) ⊎ (k ≡ true) → cond c (Some Cancel) (cond k (Some Close) None) ≡ cond later_c (Some Cancel) (cond later_k (Some Close) None)
 wants_alike true k later_c later_k f g h s = let e : later_c ≡ true = f refl in rw e refl
 wants_alike false k true later_k f g h s = absurd (let e : false ≡ true = g refl in cc)
@@ -102,13 +103,13 @@ wants_alike false true false later_k f g h s = let e : later_k ≡ true = h refl
 wants_alike false false false later_k f g h (inl s) = absurd cc
 wants_alike false false false later_k f g h (inr s) = absurd cc
 
--- nothing, then Close, then Cancel
+-- how strong a verdict is: nothing, then Close, then Cancel
 abbrev pub force : Option Verdict → ℕ
 force None = 0
 force (Some Close) = 1
 force (Some Cancel) = 2
 
--- with tests that stay true, no less is wanted
+-- if tests that are true stay true, no less is wanted
 pub force_more : (c k later_c later_k : Bool) → (c ≡ true → later_c ≡ true) → (k ≡ true → later_k ≡ true) → force (cond c (Some Cancel) (cond k (Some Close) None)) ≤ force (cond later_c (Some Cancel) (cond later_k (Some Close) None))
 force_more true k later_c later_k f g = let e : later_c ≡ true = f refl in rw e (omega arith)
 force_more false true true later_k f g = omega arith
@@ -126,7 +127,8 @@ rank_few Cancelling = omega arith
 rank_few Cancelled = omega arith
 rank_few FailedToCancel = omega arith
 
--- where what is held was held, and the ranks of what is shown rise, those of the statuses do
+-- if each LRA that is held was held, and the ranks of what is shown rise, the ranks of the statuses
+-- rise
 pub rank_held : (a b : Bool) (s t : LraStatus) → (b ≡ true → a ≡ true) → (a ≡ true → rank s ≤ rank t) → rank_of (cond a (Some s) None) ≤ rank_of (cond b (Some t) None)
 rank_held true true s t f g = g refl
 rank_held true false s t f g = omega (arith, rank_few s)
@@ -166,10 +168,11 @@ not_more true b f e = absurd cc
 not_more false true f e = f refl
 not_more false false f e = refl
 
--- with the same verdict the rank rises where none comes to be open, and where those that failed stay so
+-- with the same verdict the rank rises, if no participant becomes open and those that failed stay
+-- so
 pub rank_same : (a b : Option Verdict) (x : Verdict) → a ≡ Some x → b ≡ Some x → (o i u later_o later_i later_u : Bool) → (later_o ≡ true → o ≡ true) → (i ≡ true → later_i ≡ true) → (u ≡ true → later_u ≡ true) → rank (shown a (is_some a && not o) i u) ≤ rank (shown b (is_some b && not later_o) later_i later_u)
 rank_same a b x e f o i u later_o later_i later_u p q r = rw (e, f) (shown_more x (not o) i u (not later_o) later_i later_u (not_more o later_o p) q r)
 
--- what cancels ranks above what closes
+-- an LRA that cancels ranks above one that closes
 pub rank_raised : (a b : Option Verdict) → a ≡ Some Close → b ≡ Some Cancel → (e i u later_e later_i later_u : Bool) → rank (shown a e i u) ≤ rank (shown b later_e later_i later_u)
 rank_raised a b p q e i u later_e later_i later_u = rw (p, q) (omega (arith, closing_few e i u, cancelling_many later_e later_i later_u))

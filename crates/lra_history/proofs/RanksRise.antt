@@ -59,7 +59,7 @@ under_in S l d e = let found = any_gives (same_id l) (chain S d) e in subst (λ 
 in_under : (S : List Fact) (l d : Id) → In l (chain S d) → is_under S l d ≡ true
 in_under S l d m = any_from (same_id l) (chain S d) l m (same_self l)
 
--- where one of the chain is cancelled, nothing but Cancel is wanted
+-- if an LRA of the chain is cancelled, nothing but Cancel is wanted
 pub cancel_wanted : (S : List Fact) (l : Id) (x : Verdict) → list_any (is_decided S Cancel) (chain S l) ≡ true → want S l ≡ Some x → x ≡ Cancel
 cancel_wanted S l x c e = let cancels : Some Cancel ≡ Some x = rw c at e in cc
 
@@ -81,14 +81,14 @@ grown_inside h v w g = facts_inside h v w g.below
 pub begun_later : (h : History) (v w : List ℕ) → IsGrown h v w → (d : Id) → is_begun (facts h v) d ≡ true → is_begun (facts h w) d ≡ true
 begun_later h v w g d b = begun_inside (facts h v) (facts h w) (grown_inside h v w g) d b
 
--- the chain of what the lesser set has begun
+-- the chain of an LRA that the lesser set has begun stays the same
 pub kept_chain : (h : History) (v w : List ℕ) → IsGrown h v w → (d : Id) → is_begun (facts h v) d ≡ true → chain (facts h v) d ≡ chain (facts h w) d
 kept_chain h v w g d b = same_chain h g.lawful v w g.before g.after d b (begun_later h v w g d b)
 
 kept_decided : (h : History) (v w : List ℕ) → IsGrown h v w → (x : Verdict) (a : Id) → is_decided (facts h v) x a ≡ true → is_decided (facts h w) x a ≡ true
 kept_decided h v w g x a e = any_inside (λ (f : Fact). is_decision a x f.body) (facts h v) (facts h w) (grown_inside h v w g) e
 
--- a decision in the chain of what was begun
+-- a decision in the chain of an LRA that was begun stays
 kept_above : (h : History) (v w : List ℕ) → IsGrown h v w → (d : Id) → is_begun (facts h v) d ≡ true → (x : Verdict) → list_any (is_decided (facts h v) x) (chain (facts h v) d) ≡ true → list_any (is_decided (facts h w) x) (chain (facts h w) d) ≡ true
 kept_above h v w g d b x e =
     let found = any_gives (is_decided (facts h v) x) (chain (facts h v) d) e in
@@ -96,7 +96,7 @@ kept_above h v w g d b x e =
 
 -- What is under an LRA that wants something
 
--- a Cancel under l that the greater set has, the lesser has, where l wants the same in both
+-- if l wants the same in both sets, the lesser set has every Cancel under l that the greater has
 cancelled_before : (h : History) (v w : List ℕ) → IsGrown h v w → (l : Id) (x : Verdict) → want (facts h v) l ≡ Some x → want (facts h w) l ≡ Some x → (d : Id) → is_begun (facts h v) d ≡ true → In l (chain (facts h w) d)
     → list_any (is_decided (facts h w) Cancel) (chain (facts h w) d) ≡ true → list_any (is_decided (facts h v) Cancel) (chain (facts h v) d) ≡ true
 cancelled_before h v w g l x wanted later d begun under e =
@@ -118,7 +118,7 @@ cancelled_before h v w g l x wanted later d begun under e =
           any_from (is_decided S Cancel) (chain S d) found.0 (subst (λ (c : List Id). In found.0 c) (sym same) found.1) decided
     ]
 
--- where l wants the same in both sets, so does an LRA under it
+-- if l wants the same in both sets, so does an LRA under it
 pub kept_want : (h : History) (v w : List ℕ) → IsGrown h v w → (l : Id) (x : Verdict) → want (facts h v) l ≡ Some x → want (facts h w) l ≡ Some x → (d : Id) → is_begun (facts h v) d ≡ true → In l (chain (facts h w) d) → want (facts h v) d ≡ want (facts h w) d
 kept_want h v w g l x wanted later d begun under =
     let S = facts h v in
@@ -132,14 +132,14 @@ kept_want h v w g l x wanted later d begun under =
     (kept_above h v w g d begun Close)
     (cancel_or_close S d x by.0 chained by.2)
 
--- one that left an LRA under l, by the greater set, left it by the lesser
+-- a participant of an LRA under l that left it by the greater set left it by the lesser
 left_before : (h : History) (v w : List ℕ) → IsGrown h v w → (l : Id) (x : Verdict) → want (facts h v) l ≡ Some x → (d : Id) (m : ℕ) → In l (chain (facts h w) d) → has_left (facts h w) d m ≡ true → has_left (facts h v) d m ≡ true
 left_before h v w g l x wanted d m under left =
     let leave = any_gives (λ (f : Fact). is_leave d m f.body) (facts h w) left in
     let had = entered_before h g.lawful v w g.before g.after l x wanted leave.0 leave.1 d (leave_asks d m leave.0.body leave.2) under in
     any_from (λ (f : Fact). is_leave d m f.body) (facts h v) leave.0 had leave.2
 
--- where one under l is open in the greater set, one is in the lesser
+-- if a participant under l is open in the greater set, one is open in the lesser
 pub kept_open : (h : History) (v w : List ℕ) → IsGrown h v w → (l : Id) (x : Verdict) → want (facts h v) l ≡ Some x → want (facts h w) l ≡ Some x → some_shows is_open (facts h w) l ≡ true → some_shows is_open (facts h v) l ≡ true
 kept_open h v w g l x wanted later e =
     let S = facts h v in
@@ -169,7 +169,7 @@ Stays : (MemberStatus → Bool) → Type 0
 Stays test =
     (x : Option Verdict) (links : Links) (a b c d : Option Outcome) → level a ≤ level c → level b ≤ level d → test (status_by x links a b) ≡ true → test (status_by x links c d) ≡ true
 
--- where one under l passes such a test in the lesser set, one does in the greater
+-- if a participant under l passes such a test in the lesser set, one does in the greater
 kept_failed : (h : History) (v w : List ℕ) → IsGrown h v w → (test : MemberStatus → Bool) → Stays test → (l : Id) (x : Verdict) → want (facts h v) l ≡ Some x → want (facts h w) l ≡ Some x → some_shows test (facts h v) l ≡ true → some_shows test (facts h w) l ≡ true
 unfolding Stays
 kept_failed h v w g test stays l x wanted later e =
@@ -195,7 +195,7 @@ kept_failed h v w g test stays l x wanted later e =
 
 -- Which LRAs are held
 
--- what the lesser set covers and the greater has begun, the lesser has begun
+-- an LRA that the lesser set covers and the greater has begun was begun in the lesser
 begun_before : (h : History) (v w : List ℕ) (l : Id) → is_covered v l ≡ true → is_begun (facts h w) l ≡ true → is_begun (facts h v) l ≡ true
 begun_before h v w l covered e =
     let found = any_gives (begins l) (facts h w) e in
@@ -206,7 +206,7 @@ begun_before h v w l covered e =
     let counted : entry.0.fact.num ≤ count v entry.0.fact.origin = omega (arith, covered_le v l covered, here, number) in
     any_from (begins l) (facts h v) found.0 (subst (λ (f : Fact). In f (facts h v)) (sym entry.2) (in_facts h v entry.0 entry.1 counted)) found.2
 
--- what is purged stays purged
+-- an LRA that is purged stays purged
 purged_later : (h : History) (v w : List ℕ) → IsGrown h v w → (l : Id) → is_begun (facts h v) l ≡ true → list_any (is_purged_root (facts h v)) (chain (facts h v) l) ≡ true → list_any (is_purged_root (facts h w)) (chain (facts h w) l) ≡ true
 purged_later h v w g l b e =
     let S = facts h v in
@@ -219,7 +219,7 @@ purged_later h v w g l b e =
     let gone : list_any (λ (f : Fact). is_purge a f.body) T ≡ true = any_inside (λ (f : Fact). is_purge a f.body) S T (grown_inside h v w g) (and_right (is_root S a) _ found.2) in
     any_from (is_purged_root T) (chain T l) a (subst (λ (c : List Id). In a c) (kept_chain h v w g l b) found.1) (both_true (is_root T a) _ root gone)
 
--- what the lesser set covers and the greater holds, the lesser holds
+-- an LRA that the lesser set covers and the greater holds is held in the lesser
 held_before : (h : History) (v w : List ℕ) → IsGrown h v w → (l : Id) → is_covered v l ≡ true → is_held (facts h w) l ≡ true → is_held (facts h v) l ≡ true
 held_before h v w g l covered e =
     let T = facts h w in
@@ -229,7 +229,7 @@ held_before h v w g l covered e =
 
 -- Ranks
 
--- no less is wanted
+-- no less is wanted in the greater set
 pub wants_more : (h : History) (v w : List ℕ) → IsGrown h v w → (l : Id) → is_begun (facts h v) l ≡ true → force (want (facts h v) l) ≤ force (want (facts h w) l)
 wants_more h v w g l b =
     let S = facts h v in

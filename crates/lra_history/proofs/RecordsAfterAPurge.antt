@@ -21,7 +21,7 @@ use Rattle.lra_history.proofs.ListsWithOneMore.{map_agree, set_at_node}
 use Rattle.lra_history.proofs.LeftAsItWas.{along_chain, any_gained, any_kept, most_gained, parent_kept, begun_before, chain_begun, chain_kept, equal_not, purge_kept, record_kept}
 use Rattle.lra_history.proofs.Basics.{equal_from, equal_itself, false_from, held_begun}
 
--- Who is held
+-- Which LRAs are held
 
 any_either : {X : Type 0} (p q : X → Bool) (xs : List X) → list_any (λ x. p x || q x) xs ≡ (list_any p xs || list_any q xs)
 any_either p q [] = refl
@@ -33,7 +33,7 @@ any_either {X} p q (x ∷ xs) = ap (λ b. (p x || q x) || b) (any_either p q xs)
     by false true false d = refl
     by false false c d = refl
 
--- the purged root is a root that is purged now, and others are as they were
+-- the purged root is now purged, and other roots are as they were
 root_purged_now : (f : Fact) (S T : List Fact) → IsMore f S T → (r : Id) → f.body ≡ Purge r → is_root S r ≡ true → (a : Id) → is_begun S a ≡ true → is_purged_root T a ≡ (same_id r a || is_purged_root S a)
 root_purged_now f S T more r body root a begun =
     let same_root : is_root T a ≡ is_root S a = ap is_none (parent_kept f S T more a (begun_before f S T more a begun)) in
@@ -45,7 +45,7 @@ root_purged_now f S T more r body root a begun =
     by true false h = h refl
     by false c h = refl
 
--- after the purge of a root just those are held that were and are not under it
+-- after the purge of a root, exactly those LRAs are held that were held and are not under it
 pub purge_held : (f : Fact) (S T : List Fact) → IsMore f S T → IsSettled S → (r : Id) → f.body ≡ Purge r → is_root S r ≡ true → (x : Id) → is_held T x ≡ (is_held S x && not (is_under S r x))
 purge_held f S T more settled r body root x = by (is_begun S x) refl
   where
@@ -74,7 +74,7 @@ purge_held f S T more settled r body root x = by (is_begun S x) refl
 abbrev pub id_of : Record → Id
 id_of q = record { home = q.home; num = q.num }
 
--- those that are not under r
+-- the records of the LRAs that are not under r
 abbrev pub without_tree : List Fact → Id → List Record → List Record
 without_tree S r records = filter (λ q. not (is_under S r (id_of q))) records
 
@@ -94,11 +94,12 @@ ascending_kept keep (q ∷ records) h = by (keep q) (ascending_kept keep records
     by true rest = (all_kept (λ x. q.num < x.num) keep records h.0, rest)
     by false rest = rest
 
--- they are still in order
+-- the records that are kept are still in order
 pub filter_are_of : (home : ℕ) (keep : Record → Bool) (records : List Record) → AreOf home records → AreOf home (filter keep records)
 filter_are_of home keep records h = record { homes = all_kept (λ q. q.home ≡ home) keep records h.homes; ascending = ascending_kept keep records h.ascending }
 
--- where all that pass a test are kept, or none, one is found as before or not at all
+-- if a test keeps either all or none of the records that pass another, these are found as before or
+-- not at all
 find_filter : (t keep : Record → Bool) (k : Bool) (records : List Record) → ((q : Record) → t q ≡ true → keep q ≡ k) → find t (filter keep records) ≡ cond k (find t records) None
 find_filter t keep true [] h = refl
 find_filter t keep false [] h = refl
@@ -125,7 +126,7 @@ purge_record : (f : Fact) (S T : List Fact) → IsMore f S T → IsSettled S →
 purge_record f S T more settled nodes r x body held =
     record_kept f S T more settled (λ p g. absurd (let wrong : gives_number p (Purge r) ≡ true = rw body at g in cc)) nodes x (held_begun S x held) (rw body refl)
 
--- those under the root go, the others stay
+-- the records under the root are removed, and the others stay
 pub purge_stands : (f : Fact) (S T : List Fact) → IsMore f S T → IsSettled S → (nodes home : ℕ) (r : Id) (records : List Record) → f.body ≡ Purge r → is_root S r ≡ true
     → AreRecords nodes S home records → AreRecords nodes T home (without_tree S r records)
 purge_stands f S T more settled nodes home r records body root are =
@@ -145,7 +146,7 @@ purge_stands f S T more settled nodes home r records body root are =
     by x false held true under after = let none : is_held T x ≡ false = after ∙ rw held refl in rw none refl
     by x false held false under after = let none : is_held T x ≡ false = after ∙ rw held refl in rw none refl
 
--- what is under an LRA is of its home
+-- an LRA that is under another has the same home
 under_home : (S : List Fact) → IsWhole S → (r x : Id) → is_under S r x ≡ true → r.home ≡ x.home
 under_home S whole r x e =
     let found = any_gives (same_id r) (chain S x) e in
@@ -191,7 +192,7 @@ purge_elsewhere : (f : Fact) (S T : List Fact) → IsMore f S T → (node : ℕ)
 purge_elsewhere f S T more node e =
     most_gained f S T more (λ g. cond ((g.origin == node) && is_purge_fact g.body) g.num 0) ∙ rw e (omega arith)
 
--- a purge is the last of its node
+-- a purge is then the last of its node
 pub purges_gained : (f : Fact) (S T : List Fact) → IsMore f S T → is_purge_fact f.body ≡ true → (n : ℕ) → map (purge_number T) (nodes_to n) ≡ slice_set (map (purge_number S) (nodes_to n)) (f.origin - 1) f.num
 purges_gained f S T more e n =
     let some = more.some in
@@ -199,6 +200,6 @@ purges_gained f S T more e n =
     set_at_node (purge_number S) (purge_number T) (f.origin - 1) f.num n (ap (purge_number T) at ∙ purge_here f S T more e)
     (λ k other. purge_elsewhere f S T more k (equal_not f.origin k (λ s. other (sym s ∙ sym at))))
 
--- another fact changes none of them
+-- any other fact changes no last purge
 pub purges_kept : (f : Fact) (S T : List Fact) → IsMore f S T → is_purge_fact f.body ≡ false → (n : ℕ) → map (purge_number T) (nodes_to n) ≡ map (purge_number S) (nodes_to n)
 purges_kept f S T more e n = map_agree (purge_number T) (purge_number S) (nodes_to n) (λ k m. purge_kept f S T more e k)

@@ -38,7 +38,7 @@ of_not x l r home num e same = clash (of_is_same x l r home num ∙ ap (same_id 
     clash : is_of x r ≡ true → ⊥
     clash t = let wrong : true ≡ false = sym t ∙ e in cc
 
--- one that the fact neither begins nor names is found as before
+-- an LRA that the fact neither begins nor names is found as before
 others_stand : (f : Fact) (S T : List Fact) → IsMore f S T → IsSettled S → is_purge_fact f.body ≡ false → ((p : Id) → gives_number p f.body ≡ true → f.origin ≡ p.home) → (nodes : ℕ) (x : Id) → begins x f ≡ false → is_named x f.body ≡ false
     → cond (is_held S x) (Some (record_of nodes S x)) None ≡ cond (is_held T x) (Some (record_of nodes T x)) None
 others_stand f S T more settled plain home nodes x b n = by (is_held S x) refl (held_stays f S T more settled.whole plain x b)
@@ -47,7 +47,7 @@ others_stand f S T more settled plain home nodes x b n = by (is_held S x) refl (
     by true held same = let t = same ∙ held in rw t (ap (λ (r : Record). Some r) (sym (record_kept f S T more settled home nodes x (held_begun S x held) n)))
     by false held same = let t = same ∙ held in rw t refl
 
--- one that is held and whose record is r
+-- r is found of an LRA that is held and whose record is r
 own_stands : (T : List Fact) (nodes : ℕ) (l x : Id) (r : Record) → l ≡ x → is_held T l ≡ true → record_of nodes T l ≡ r → Some r ≡ cond (is_held T x) (Some (record_of nodes T x)) None
 own_stands T nodes l x r same held is =
     subst (λ (y : Id). Some r ≡ cond (is_held T y) (Some (record_of nodes T y)) None) same (rw held (ap (λ (q : Record). Some q) (sym is)))
@@ -59,7 +59,7 @@ record NamesOne (f : Fact) (l : Id) : Type 0 where
   pub only : (x : Id) → is_named x f.body ≡ true → l ≡ x
   pub home : (p : Id) → gives_number p f.body ≡ true → f.origin ≡ p.home
 
--- it changes one record
+-- such a fact changes one record
 named_stands : (f : Fact) (S T : List Fact) → IsMore f S T → IsSettled S → (nodes : ℕ) (l : Id) (records : List Record) → NamesOne f l → is_held S l ≡ true
     → record_of nodes T l ≡ record_after f (record_of nodes S l) → AreRecords nodes S l.home records → AreRecords nodes T l.home (put_record (record_after f (record_of nodes S l)) records)
 named_stands f S T more settled nodes l records names held changed are =
@@ -80,7 +80,7 @@ named_stands f S T more settled nodes l records names held changed are =
         ∙ others_stand f S T more settled names.plain names.home nodes x (none_begun x)
         (false_from (is_named x f.body) (λ n. of_not x l (record_after f (record_of nodes S l)) refl refl e (names.only x n)))
 
--- a decision of an LRA that wanted nothing
+-- the records with a decision of an LRA that wanted nothing
 pub decide_stands : (f : Fact) (S T : List Fact) → IsMore f S T → IsSettled S → (nodes : ℕ) (l : Id) (v : Verdict) (records : List Record) → f.body ≡ Decide l v → is_held S l ≡ true → want S l ≡ None
     → AreRecords nodes S l.home records → AreRecords nodes T l.home (put_record (record_after f (record_of nodes S l)) records)
 decide_stands f S T more settled nodes l v records body held none are =
@@ -93,7 +93,7 @@ decide_stands f S T more settled nodes l v records body held none are =
     })
     held (decide_record f S T more settled nodes l v body (held_begun S l held) none) are
 
--- a join under the next member number, at its home
+-- the records with a join under the next member number, at its home
 pub join_stands : (f : Fact) (S T : List Fact) → IsMore f S T → IsSettled S → (nodes : ℕ) (l : Id) (m : ℕ) (links : Links) (records : List Record) → f.body ≡ Join l m links → f.origin ≡ l.home → m ≡ numbers_given S l + 1 → is_held S l ≡ true
     → AreRecords nodes S l.home records → AreRecords nodes T l.home (put_record (record_after f (record_of nodes S l)) records)
 join_stands f S T more settled nodes l m links records body at next held are =
@@ -106,7 +106,7 @@ join_stands f S T more settled nodes l m links records body at next held are =
     })
     held (join_record f S T more settled nodes l m links body at next (held_begun S l held)) are
 
--- a leave of a member
+-- the records with a leave of a member
 pub leave_stands : (f : Fact) (S T : List Fact) → IsMore f S T → IsSettled S → (nodes : ℕ) (l : Id) (m : ℕ) (records : List Record) → f.body ≡ Leave l m → 1 ≤ m → is_held S l ≡ true
     → AreRecords nodes S l.home records → AreRecords nodes T l.home (put_record (record_after f (record_of nodes S l)) records)
 leave_stands f S T more settled nodes l m records body some held are =
@@ -119,7 +119,7 @@ leave_stands f S T more settled nodes l m records body some held are =
     })
     held (leave_record f S T more settled nodes l m body some (held_begun S l held)) are
 
--- a report of a member, at whatever node
+-- the records with a report of a member, by any node
 pub report_stands : (f : Fact) (S T : List Fact) → IsMore f S T → IsSettled S → (nodes : ℕ) (l : Id) (m : ℕ) (act : Act) (outcome : Outcome) (records : List Record) → f.body ≡ Report l m act outcome → 1 ≤ m → is_held S l ≡ true
     → AreRecords nodes S l.home records → AreRecords nodes T l.home (put_record (record_after f (record_of nodes S l)) records)
 report_stands f S T more settled nodes l m act outcome records body some held are =
@@ -132,7 +132,7 @@ report_stands f S T more settled nodes l m act outcome records body some held ar
     })
     held (report_record f S T more settled nodes l m act outcome body some (held_begun S l held)) are
 
--- a forgot of a member, at whatever node
+-- the records with a forgot of a member, by any node
 pub forgot_stands : (f : Fact) (S T : List Fact) → IsMore f S T → IsSettled S → (nodes : ℕ) (l : Id) (m : ℕ) (records : List Record) → f.body ≡ Forgot l m → 1 ≤ m → is_held S l ≡ true
     → AreRecords nodes S l.home records → AreRecords nodes T l.home (put_record (record_after f (record_of nodes S l)) records)
 forgot_stands f S T more settled nodes l m records body some held are =
@@ -145,7 +145,7 @@ forgot_stands f S T more settled nodes l m records body some held are =
     })
     held (forgot_record f S T more settled nodes l m body some (held_begun S l held)) are
 
--- a told of a member, at whatever node
+-- the records with a told of a member, by any node
 pub told_stands : (f : Fact) (S T : List Fact) → IsMore f S T → IsSettled S → (nodes : ℕ) (l : Id) (m : ℕ) (records : List Record) → f.body ≡ Told l m → 1 ≤ m → is_held S l ≡ true
     → AreRecords nodes S l.home records → AreRecords nodes T l.home (put_record (record_after f (record_of nodes S l)) records)
 told_stands f S T more settled nodes l m records body some held are =
@@ -160,7 +160,7 @@ told_stands f S T more settled nodes l m records body some held are =
 
 -- Begins
 
--- the record of a new LRA goes among those that stand for all others
+-- the record of a new LRA is put among those that stand for all others
 new_stands : (f : Fact) (S T : List Fact) → IsMore f S T → IsSettled S → (nodes : ℕ) (parent : Option Id) (deadline : ℕ) (records : List Record) → f.body ≡ Begin parent deadline → IsHeldAbove f S parent → AreOf f.origin records
     → ((x : Id) → x.home ≡ f.origin → begins x f ≡ false → find (is_of x) records ≡ cond (is_held T x) (Some (record_of nodes T x)) None) → AreRecords nodes T f.origin (put_record (new_record nodes S f parent deadline) records)
 new_stands f S T more settled nodes parent deadline records body up order others =
@@ -177,7 +177,7 @@ new_stands f S T more settled nodes parent deadline records body up order others
     by x at false e =
         others x at (false_from (begins x f) (λ b. of_not x (begun_by f) (new_record nodes S f parent deadline) refl refl e (same_is (begun_by f) x (and_right (is_begin f.body) _ b))))
 
--- a begin of a root
+-- the records with a begin of a root
 pub root_stands : (f : Fact) (S T : List Fact) → IsMore f S T → IsSettled S → (nodes : ℕ) (deadline : ℕ) (records : List Record) → f.body ≡ Begin None deadline
     → AreRecords nodes S f.origin records → AreRecords nodes T f.origin (put_record (new_record nodes S f None deadline) records)
 root_stands f S T more settled nodes deadline records body are =
@@ -185,7 +185,7 @@ root_stands f S T more settled nodes deadline records body are =
     are.stands x at
     ∙ others_stand f S T more settled (rw body refl) (λ p g. absurd (let wrong : gives_number p (Begin None deadline) ≡ true = rw body at g in cc)) nodes x b (rw body refl))
 
--- a begin under a parent, at its home: two records change
+-- the records with a begin under a parent, at its home: two records change
 pub nested_stands : (f : Fact) (S T : List Fact) → IsMore f S T → IsSettled S → (nodes : ℕ) (p : Id) (deadline : ℕ) (records : List Record) → f.body ≡ Begin (Some p) deadline → f.origin ≡ p.home → is_held S p ≡ true
     → AreRecords nodes S f.origin records → AreRecords nodes T f.origin (put_record (new_record nodes S f (Some p) deadline) (put_record (record_after f (record_of nodes S p)) records))
 nested_stands f S T more settled nodes p deadline records body at held are =
@@ -244,7 +244,7 @@ begun_home node (Forgot id m) b = absurd cc
 begun_home node (Told id m) b = absurd cc
 begun_home node (Purge root) b = absurd cc
 
--- the records of other homes stay, where the fact is no purge
+-- the records of other homes stay the same, if the fact is no purge
 pub other_home_stands : (f : Fact) (S T : List Fact) → IsMore f S T → IsSettled S → is_purge_fact f.body ≡ false → ((p : Id) → gives_number p f.body ≡ true → f.origin ≡ p.home) → (nodes home : ℕ) (records : List Record) → (touched_home f.origin f.body ≡ home → ⊥)
     → AreRecords nodes S home records → AreRecords nodes T home records
 other_home_stands f S T more settled plain givers nodes home records other are =

@@ -1,4 +1,5 @@
--- What is held has a record, and what the reply to a command is where it is refused and where it is accepted.
+-- An LRA that is held has a record; and what the reply to a command is, whether it is refused or
+-- accepted.
 use Rattle.std.proofs.Common.{◌≡◌, ◌≤◌, ℕ, List, refl, sym, ap, ◌∙◌, Bool, true, false, cond, Some, None, length}
 use Rattle.lra_id.specs.Ids.{Id}
 use Rattle.lra_facts.specs.declared.fact.Fact.{Fact}
@@ -22,7 +23,7 @@ reply_denied S v node c refusal denied = ap (λ (j : Judgement). reply_by j (acc
 pub reply_accepted : (S : List Fact) (v : List ℕ) (node : ℕ) (c : Command) → judge S v node c ≡ Accepted → reply_of S v node c ≡ accepted S v node c
 reply_accepted S v node c taken = ap (λ (j : Judgement). reply_by j (accepted S v node c)) taken
 
--- what is held has a record
+-- an LRA that is held has a record
 pub never_lost : (S : List Fact) (view : View) (l : Id) → StandsFor S view → is_held S l ≡ true → l.home ≤ length view.front → record_at view l ≡ None → ⊥
 never_lost S view l stands held there none =
     let found = (stands.records l.home (held_home S view l stands held) there).stands l refl in
@@ -32,6 +33,6 @@ never_lost S view l stands held there none =
     by r true e f = cc
     by r false e f = cc
 
--- what is held is of one of the nodes
+-- the home of an LRA that is held is one of the nodes
 pub held_within : (S : List Fact) (view : View) (l : Id) → StandsFor S view → is_held S l ≡ true → l.home ≤ length view.front
 held_within S view l stands held = begun_within S view.front l stands.front (held_begun S l held)

@@ -1,4 +1,4 @@
--- chains: what is in them, and when two sets have the same
+-- chains: what is in them, and when two sets have the same chains
 use Rattle.std.proofs.Common.{◌≡◌, ◌⊎◌, inl, inr, ◌≤◌, ℕ, zero, suc, List, [], ◌∷◌, refl, sym, ap, subst, ◌∙◌, arith, Option, Some, None}
 use Rattle.std.specs.List.{AllByRecursion}
 use Rattle.std.specs.Option.{option_map_or}
@@ -14,7 +14,7 @@ rest_goes : (f : Id → List Id) (a b : Id) (above : Option Id) → ((p : Id) �
 rest_goes f a b None h m = absurd m
 rest_goes f a b (Some p) h m = h p refl m
 
--- what is in the chain of one of the chain is in the chain
+-- whatever is in the chain of an LRA of a chain is in that chain
 chain_goes_within : (S : List Fact) → AllByRecursion NamesEarlier S → (n : ℕ) (d l a : Id) → d.num ≤ n → In l (chain_within n S d) → In a (chain S l) → In a (chain_within n S d)
 chain_goes_within S nested zero d l a b (inl s) g = subst (λ c. In a c) (ap (chain S) s ∙ chain_enough S nested d.num zero d (omega arith) b) g
 chain_goes_within S nested zero d l a b (inr m) g = absurd m
@@ -23,7 +23,7 @@ chain_goes_within S nested (suc n) d l a b (inr m) g =
     inr (rest_goes (chain_within n S) l a (parent_of S d) (λ p e k.
     chain_goes_within S nested n p l a (omega (arith, parent_lesser S d p nested e)) k g) m)
 
--- the chain of one of a chain is part of that
+-- the chain of an LRA of a chain is a part of that chain
 pub chain_goes : (S : List Fact) → AllByRecursion NamesEarlier S → (d l a : Id) → In l (chain S d) → In a (chain S l) → In a (chain S d)
 chain_goes S nested d l a m g = chain_goes_within S nested d.num d l a (omega arith) m g
 
@@ -41,11 +41,12 @@ chain_order_within S nested (suc n) d a l b (inr m) (inr k) =
     order_rest (chain_within n S) (In a (chain S l) ⊎ In l (chain S a)) a l (parent_of S d) (λ p e x y.
     chain_order_within S nested n p a l (omega (arith, parent_lesser S d p nested e)) x y) m k
 
--- of two in a chain, one is in the chain of the other
+-- of two LRAs in a chain, one is in the chain of the other
 pub chain_order : (S : List Fact) → AllByRecursion NamesEarlier S → (d a l : Id) → In a (chain S d) → In l (chain S d) → In a (chain S l) ⊎ In l (chain S a)
 chain_order S nested d a l m k = chain_order_within S nested d.num d a l (omega arith) m k
 
--- sets that agree on the parents of the LRAs of a kind, a kind with each one's parent, agree on their chains
+-- two sets that agree on the parents of the LRAs of a kind, to which each such parent belongs,
+-- agree on their chains
 pub same_chain_on : (D : Id → Type 0) (S T : List Fact) → ((l : Id) → D l → parent_of S l ≡ parent_of T l) → ((l p : Id) → D l → parent_of S l ≡ Some p → D p) → (n : ℕ) (l : Id) → D l → chain_within n S l ≡ chain_within n T l
 same_chain_on D S T same up zero l d = refl
 same_chain_on D S T same up (suc n) l d =
@@ -56,13 +57,13 @@ along_rest : (D : Id → Type 0) (f : Id → List Id) (a : Id) (above : Option I
 along_rest D f a None h m = absurd m
 along_rest D f a (Some p) h m = h p refl m
 
--- what holds of an LRA and goes up to parents holds along its chain
+-- a property that passes from an LRA to its parent holds along its chain
 pub along_chain : (D : Id → Type 0) (S : List Fact) → ((l p : Id) → D l → parent_of S l ≡ Some p → D p) → (n : ℕ) (l : Id) → D l → (a : Id) → In a (chain_within n S l) → D a
 along_chain D S up zero l d a (inl s) = subst D (sym s) d
 along_chain D S up zero l d a (inr m) = absurd m
 along_chain D S up (suc n) l d a (inl s) = subst D (sym s) d
 along_chain D S up (suc n) l d a (inr m) = along_rest D (chain_within n S) a (parent_of S l) (λ p e. along_chain D S up n p (up l p d e) a) m
 
--- all of a chain are of one home
+-- all LRAs of a chain are of one home
 pub chain_home : (S : List Fact) → AllByRecursion NamesEarlier S → (l a : Id) → In a (chain S l) → a.home ≡ l.home
 chain_home S nested l a m = along_chain (λ d. d.home ≡ l.home) S (λ d p h e. parent_home S d p nested e ∙ h) l.num l refl a m

@@ -1,4 +1,5 @@
--- Two readings that tell the same of the LRAs that are held make the same of a command: so a view and its set
+-- Two readings that say the same of the LRAs that are held make the same of a command; so do a view
+-- and its set
 use Rattle.std.specs.Option.{option_map_or}
 use Rattle.std.proofs.Common.{◌≡◌, inl, inr, ◌||◌, ◌≤◌, ◌-◌, ℕ, List, [], ◌∷◌, refl, sym, ap, ◌∙◌, Bool, true, false, arith, Option, Some, None, Ok, find, is_none, is_some, length, nat_lt}
 use Rattle.std.proofs.lemmas.List.{get_or_past}
@@ -34,7 +35,7 @@ use Rattle.lra_history.proofs.Covered.{found_of, nested_settled}
 use Rattle.lra_history.proofs.Basics.{at_most, open_first, passed}
 use Rattle.lra_history.proofs.ReplyOrRefusal.{held_within, never_lost}
 
--- they tell the same of the LRAs that are held, and of how many there are at each node
+-- the readings say the same of the LRAs that are held, and of how many there are at each node
 pub record AreAlike (nodes : ℕ) (t u : Reading) : Type 0 where
   pub held : (l : Id) → t.held l ≡ u.held l
   pub want : (l : Id) → u.held l ≡ true → t.want l ≡ u.want l
@@ -64,7 +65,7 @@ first_both o p xs ys same rest = ap (λ (x : Option Refusal). first (x ∷ xs)) 
     by None = rest
     by (Some r) = refl
 
--- what follows a test needs only be the same where it is passed
+-- what follows a test needs to be the same only if the test is passed
 pub first_past : (b c : Bool) (r : Refusal) (xs ys : List (Option Refusal)) → b ≡ c → (c ≡ true → first xs ≡ first ys) → first (unless b r ∷ xs) ≡ first (unless c r ∷ ys)
 first_past b c r xs ys same rest = ap (λ (x : Bool). first (unless x r ∷ xs)) same ∙ by c rest
   where
@@ -177,7 +178,7 @@ judge_facts S v node (Forgot l m) = refl
 judge_facts S v node (Told l m) = refl
 judge_facts S v node (Purge root) = refl
 
--- A view tells what its set does
+-- A view says what its set says
 
 zero_home : (S : List Fact) (view : View) (l : Id) (r : Record) → StandsFor S view → l.home ≡ 0 → record_at view l ≡ Some r → ⊥
 zero_home S view l r stands zero found = elim (at_most 1 (length view.front)) [
@@ -193,7 +194,7 @@ zero_home S view l r stands zero found = elim (at_most 1 (length view.front)) [
       let wrong : Some r ≡ None = sym found ∙ none in cc
 ]
 
--- what has a record is held
+-- an LRA that has a record is held
 pub has_record : (S : List Fact) (view : View) (l : Id) → StandsFor S view → is_some (record_at view l) ≡ is_held S l
 has_record S view l stands = by (record_at view l) refl
   where
@@ -211,7 +212,7 @@ has_record S view l stands = by (record_at view l) refl
 pub stands_at : (S : List Fact) (view : View) (l : Id) → StandsFor S view → is_held S l ≡ true → Stands (length view.front) l.home S (records_at view.records l.home)
 stands_at S view l stands held = (stands.records l.home (held_home S view l stands held) (held_within S view l stands held)).stands
 
--- of an LRA that is held, and of its home
+-- the view and the set are alike for the LRAs that are held and their homes
 pub view_alike : (S : List Fact) (view : View) → IsSettled S → StandsFor S view → AreAlike (length view.front) (by_view view) (by_facts S)
 view_alike S view settled stands =
     let nodes = length view.front in
@@ -241,7 +242,7 @@ view_alike S view settled stands =
           least_untold_said nodes l.home S (records_at view.records l.home) l settled.whole nest settled.seated (all_from IsNumbered S settled.numbered) are.order are.stands refl held;
     }
 
--- what a report that is not refused goes by
+-- what holds of a report that is not refused
 pub report_passed : (u : Reading) (v : List ℕ) (node : ℕ) (l : Id) (m : ℕ) (act : Act) (outcome : Outcome) → refusal_by u v node (Report l m act outcome) ≡ None → (u.held l ≡ true) × (u.participant l m ≡ true)
 report_passed u v node l m act outcome none =
     let after_unknown = open_first (unknown v l) _ none in
@@ -249,7 +250,7 @@ report_passed u v node l m act outcome none =
     let after_stranger = open_first (unless (u.participant l m) UnknownMember) _ after_gone.1 in
     (passed (u.held l) NotHeld after_gone.0, passed (u.participant l m) UnknownMember after_stranger.0)
 
--- and what a forgot does
+-- what holds of a forgot that is not refused
 pub forgot_passed : (u : Reading) (v : List ℕ) (node : ℕ) (l : Id) (m : ℕ) → refusal_by u v node (Forgot l m) ≡ None → (u.held l ≡ true) × (u.participant l m ≡ true)
 forgot_passed u v node l m none =
     let after_unknown = open_first (unknown v l) _ none in
@@ -257,8 +258,8 @@ forgot_passed u v node l m none =
     let after_stranger = open_first (unless (u.participant l m) UnknownMember) _ after_gone.1 in
     (passed (u.held l) NotHeld after_gone.0, passed (u.participant l m) UnknownMember after_stranger.0)
 
--- and what a told does
--- (as `forgot_passed`, but for the mark; one lemma for both was not tried)
+-- and of a told that is not refused (as `forgot_passed`, except for the mark; one lemma for both
+-- was not tried)
 pub told_passed : (u : Reading) (v : List ℕ) (node : ℕ) (l : Id) (m : ℕ) → refusal_by u v node (Told l m) ≡ None → (u.held l ≡ true) × (u.participant l m ≡ true)
 told_passed u v node l m none =
     let after_unknown = open_first (unknown v l) _ none in
@@ -294,7 +295,7 @@ pub judge_view : (S : List Fact) (view : View) (me : ℕ) (c : Command) → IsPl
 judge_view S view me c plain settled stands =
     judge_alike (length view.front) (by_view view) (by_facts S) view.front me c plain (view_alike S view settled stands) ∙ judge_facts S view.front me c
 
--- what it wants
+-- the view and the set agree on what an LRA wants
 pub want_alike : (S : List Fact) (view : View) (l : Id) → IsSettled S → StandsFor S view → answered ((by_view view).held l) ((by_view view).want l) ≡ answered (is_held S l) (want S l)
 want_alike S view l settled stands =
     let alike = view_alike S view settled stands in

@@ -1,4 +1,4 @@
--- what a closed set of a lawful history keeps besides being settled, for merges
+-- what a closed set of a lawful history keeps for merges, in addition to being settled
 use Rattle.std.proofs.Common.{◌≡◌, ◌≤◌, ◌==◌, ◌&&◌, ℕ, List, refl, sym, ap, subst, ◌∙◌, Bool, true, false, cond, arith, Option, Some, None, is_some, slice_get}
 use Rattle.std.proofs.lemmas.Bool.Decides.{nat_tests}
 use Rattle.std.specs.Option.{option_map_or}
@@ -65,9 +65,9 @@ purge_home J v node (Report id n act outcome) a given e = absurd cc
 purge_home J v node (Forgot id n) a given e = absurd cc
 purge_home J v node (Told id n) a given e = absurd cc
 
--- Links that ask
+-- Links that are asked
 
--- the links of a participant, of which something holds
+-- the participant has links that pass the test
 record HasLinks (J : List Fact) (l : Id) (m : ℕ) (test : Links → Bool) : Type 0 where
   links : Links
   there : links_of J l m ≡ Some links
@@ -178,11 +178,11 @@ joins_once S f g l m a b seated k joins n also =
     cc
 
 module _ (h : History) (law : IsLawful h) (v : List ℕ) (closed : IsClosed h v) where
-  -- the command of an entry is given what it needs
+  -- the command of an entry was given what it needs
   given_at : (e : Made) → In e (made h) → IsGiven (facts h e.front) e.front e.fact.origin (command_of e.fact.body)
   given_at e m = lawful_gives (facts h e.front) e.front e.fact.origin (command_of e.fact.body) (law.each e m).lawful.accepted
 
-  -- links in the set of an entry's front are those in the closed set
+  -- the links in the set of an entry's front are those in the closed set
   links_here : (test : Links → Bool) (e : Made) (l : Id) (m : ℕ) (g : Fact) (links : Links) → In e (made h) → e.fact.num ≤ count v e.fact.origin → HasLinks (facts h e.front) l m test → In g (facts h v) → g.body ≡ Join l m links → test links ≡ true
   links_here test e l m g links k bound has n joins =
       let f = join_found (facts h e.front) l m has.links has.there in

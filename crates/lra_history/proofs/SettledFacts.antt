@@ -1,4 +1,4 @@
--- what is asked of each fact of a settled set, and that a lawful fact meets it
+-- what is required of each fact of a settled set, and that a lawful fact meets it
 use Rattle.std.proofs.Common.{◌≡◌, inl, inr, ◌≤◌, ◌<◌, ◌+◌, ◌==◌, ◌&&◌, ℕ, zero, suc, List, [], ◌∷◌, refl, sym, ap, subst, ◌∙◌, Bool, true, false, cond, arith, filter, length, Option, Some, None, IfSome, is_some, nat_lt, slice_get}
 use Rattle.std.specs.Option.{option_map_or}
 use Rattle.std.proofs.lemmas.Bool.Decides.{nat_tests}
@@ -27,8 +27,8 @@ use Rattle.lra_facts.specs.declared.command.Command.TheVariants.{Begin as BeginA
 use Rattle.lra_history.proofs.AcceptedCommands.{IsGiven, lawful_gives, number_left}
 use Rattle.lra_history.proofs.Basics.{held_begun}
 
--- what is asked of each fact of a settled set
--- (it carries both "one more lawful fact" and "each closed set")
+-- what is required of each fact of a settled set (it carries both "one more lawful fact" and "each
+-- closed set")
 pub record MeetsSettled (T : List Fact) (f : Fact) : Type 0 where
   pub givers : (l : Id) → gives_number l f.body ≡ true → f.origin ≡ l.home
   pub numbers : (l : Id) (m : ℕ) (links : Links) → f.body ≡ Join l m links → m ≡ member_number T l f.num
@@ -41,7 +41,7 @@ pub record MeetsSettled (T : List Fact) (f : Fact) : Type 0 where
 
 -- Counts
 
--- tests that agree on each element keep the same
+-- tests that agree on each element keep the same elements
 pub filter_agree : {X : Type 0} (p q : X → Bool) (xs : List X) → ((x : X) → In x xs → p x ≡ q x) → filter p xs ≡ filter q xs
 filter_agree p q [] h = refl
 filter_agree p q (x ∷ xs) h =
@@ -76,7 +76,7 @@ both_less p q (z ∷ xs) x (inr m) yes_p no_q = by (p z) (q z) (both_less p q xs
     by true false e = omega (arith, e)
     by false c e = e
 
--- the number that a fact gives is one of those that were given
+-- the member number that a fact gives is one of those that were given
 pub number_within : (S : List Fact) (l : Id) (f : Fact) → In f S → gives_number l f.body ≡ true → member_number S l f.num ≤ numbers_given S l
 number_within S l f m e = both_less (λ (x : Fact). gives_number l x.body) (λ (x : Fact). nat_lt x.num f.num) S f m e (itself f.num)
   where
@@ -114,7 +114,7 @@ chain_inside J T whole once twice inside l e = chain_inside_within J T whole onc
 pub begun_inside : (J T : List Fact) → IsInside J T → (l : Id) → is_begun J l ≡ true → is_begun T l ≡ true
 begun_inside J T inside l e = any_inside (begins l) J T inside e
 
--- A set of facts that are fit
+-- Sets whose facts are fit
 
 named_parent : (body : Body) (p : Id) → parent_named body ≡ Some p → is_named p body ≡ true
 named_parent (Begin None deadline) p e = absurd cc
@@ -127,7 +127,7 @@ named_parent (Forgot id m) p e = absurd cc
 named_parent (Told id m) p e = absurd cc
 named_parent (Purge root) p e = absurd cc
 
--- a set is whole where each fact names earlier LRAs that are begun in it
+-- a set is whole if each fact names earlier LRAs that are begun in it
 pub whole_from : (T : List Fact) → ((f : Fact) → In f T → NamesEarlier f) → ((f : Fact) (l : Id) → In f T → is_named l f.body ≡ true → is_begun T l ≡ true) → IsWhole T
 whole_from T earlier named =
     record {
@@ -193,9 +193,9 @@ settled_from T whole once fit =
       members = λ f l m k e. (fit f k).members l m e;
     }
 
--- What the body says that is entered for a command
+-- What the body that is entered for a command says
 
--- what it names is held
+-- an LRA that the body names is held
 body_named : (S : List Fact) (v : List ℕ) (node : ℕ) (c : Command) (l : Id) → IsGiven S v node c → is_named l (body_for S c) ≡ true → is_held S l ≡ true
 body_named S v node (BeginAsked None deadline) l given e = absurd cc
 body_named S v node (BeginAsked (Some p) deadline) l given e = subst (λ (x : Id). is_held S x ≡ true) (same_is p l e) given.0.held
@@ -217,7 +217,7 @@ body_purged S v node (ReportAsked id m act outcome) l given e = absurd cc
 body_purged S v node (ForgotAsked id m) l given e = absurd cc
 body_purged S v node (ToldAsked id m) l given e = absurd cc
 
--- it gives a number at home only, and while there is one
+-- the body gives a number only at its home, and only while a number is left
 pub body_gives : (S : List Fact) (v : List ℕ) (node : ℕ) (c : Command) (l : Id) → IsGiven S v node c → gives_number l (body_for S c) ≡ true → (l.home ≡ node) × (numbers_given S l < 32)
 body_gives S v node (BeginAsked None deadline) l given e = absurd cc
 body_gives S v node (BeginAsked (Some p) deadline) l given e = subst (λ (x : Id). (x.home ≡ node) × (numbers_given S x < 32)) (same_is p l e) (given.0.home, given.1)
@@ -265,7 +265,7 @@ same_participant S id l n m joined e =
     same_number : (a b : ℕ) → (a == b) ≡ true → a ≡ b
     same_number a b e = grind (arith, nat_tests)
 
--- it speaks of participants
+-- the body speaks of participants only
 body_member : (S : List Fact) (v : List ℕ) (node : ℕ) (c : Command) (l : Id) (m : ℕ) → IsGiven S v node c → names_member l m (body_for S c) ≡ true → is_participant S l m ≡ true
 body_member S v node (LeaveAsked id n) l m given e = same_participant S id l n m given.1 e
 body_member S v node (ReportAsked id n act outcome) l m given e = same_participant S id l n m given.1 e
@@ -276,7 +276,7 @@ body_member S v node (JoinAsked id links) l m given e = absurd cc
 body_member S v node (DecideAsked id verdict) l m given e = absurd cc
 body_member S v node (PurgeAsked root) l m given e = absurd cc
 
--- who takes part has joined
+-- a participant has joined
 joined_by : (S : List Fact) (l : Id) (m : ℕ) → is_participant S l m ≡ true → (f : Fact) × (links : Links) × In f S × (f.body ≡ Join l m links)
 joined_by S l m e = by (links_of S l m) refl (and_left (is_some (links_of S l m)) _ e)
   where
@@ -304,7 +304,7 @@ earlier_new J v node c counted taken =
     let bound : p.num ≤ count v p.home = begun_counted J v p counted (held_begun J p parent.1) in
     (parent.0, omega (arith, bound, ap (count v) parent.0)))
 
--- what a lawful fact names is begun
+-- an LRA that a lawful fact names is begun
 pub named_new : (J : List Fact) (v : List ℕ) (node : ℕ) (c : Command) (l : Id) → judge J v node c ≡ Accepted → is_named l (body_for J c) ≡ true → is_begun J l ≡ true
 named_new J v node c l taken e = held_begun J l (body_named J v node c l (lawful_gives J v node c taken) e)
 

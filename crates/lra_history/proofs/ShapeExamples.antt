@@ -53,7 +53,7 @@ roots =
       records = (outer_record 4 Left ∷ second_root ∷ []) ∷ [];
     }
 
--- the records of the first home
+-- the records of the first home of a view
 abbrev firsts : View → List Record
 firsts view = records_at view.records 1
 
@@ -66,9 +66,9 @@ two_levels = refl
 not_one_level : is_shallow 1 1 (firsts nesting) 2 ≡ false
 not_one_level = refl
 
--- Each of the two has the shape
+-- Each of the two views has the shape
 
--- a view of one home has it where each of its records has its place
+-- a view of one home has the shape if each of its records has its place
 one_home : (front purges : List ℕ) (rs : List Record) → length rs ≤ 256 → IsBelow purges front → ((r : Record) → In r rs → IsInPlace front r.home rs r.num r)
     → HasShape (record { front = front; purges = purges; records = rs ∷ [] })
 one_home front purges rs few below each =
@@ -140,7 +140,7 @@ roots_have_it = one_home (4 ∷ []) (0 ∷ []) (outer_record 4 Left ∷ second_r
     })
     each r (inr (inr none)) = absurd none
 
--- Their merge has not
+-- Their merge does not have it
 
 -- the merge keeps the parent of the second LRA and drops the member
 still_nested : record_at (merged nesting roots) inner ≡ Some inner_record

@@ -1,4 +1,4 @@
--- where two closed sets differ over Close and Cancel, an LRA further up was cancelled
+-- if two closed sets differ over Close and Cancel, an LRA further up was cancelled
 use Rattle.std.proofs.Common.{◌≡◌, ◌⊎◌, inl, inr, ℕ, List, [], ◌∷◌, refl, sym, ap, subst, ◌∙◌, Bool, true, false, cond, Option, Some, None}
 use Rattle.lra_id.specs.Ids.{Id, same_id}
 use Rattle.lra_id.specs.States.{same_verdict, shown}
@@ -40,7 +40,7 @@ decision_is l x (Forgot id m) e = absurd cc
 decision_is l x (Told id m) e = absurd cc
 decision_is l x (Purge id) e = absurd cc
 
--- what wants Close in one closed set is itself cancelled in none
+-- an LRA that wants Close in one closed set is itself cancelled in none
 not_itself : (h : History) → IsLawful h → (v w : List ℕ) → IsClosed h v → IsClosed h w → (l : Id) → want (facts h v) l ≡ Some Close → is_decided (facts h w) Cancel l ≡ true → ⊥
 not_itself h lawful v w cv cw l close d =
     let S = facts h v in
@@ -51,7 +51,7 @@ not_itself h lawful v w cv cw l close d =
     let cancels : Close ≡ Cancel = cancel_wanted S l Close (any_from (is_decided S Cancel) (chain S l) l (own_in_chain S l.num l) decided) close in
     cc
 
--- where an LRA wants Close in one closed set and Cancel in another, one further up was cancelled
+-- if an LRA wants Close in one closed set and Cancel in another, an LRA further up was cancelled
 pub parted : (h : History) → IsLawful h → (v w : List ℕ) → IsClosed h v → IsClosed h w → (l : Id) → want (facts h v) l ≡ Some Close → want (facts h w) l ≡ Some Cancel → IsCancelledAbove h w l
 parted h lawful v w cv cw l close cancel =
     let T = facts h w in
@@ -70,7 +70,7 @@ parted h lawful v w cv cw l close cancel =
       known = subst (λ (f : Fact). In f T) e.2 found.1;
     }
 
--- so a root does not want Close in one and Cancel in another
+-- so a root does not want Close in one closed set and Cancel in another
 pub root_whole : (h : History) → IsLawful h → (v w : List ℕ) → IsClosed h v → IsClosed h w → (l : Id) → is_root (facts h v) l ≡ true → want (facts h v) l ≡ Some Close → want (facts h w) l ≡ Some Cancel → ⊥
 root_whole h lawful v w cv cw l root close cancel =
     let S = facts h v in
@@ -83,7 +83,7 @@ root_whole h lawful v w cv cw l root close cancel =
     only a (inl s) = s
     only a (inr m) = absurd m
 
--- what shows closed wants Close
+-- an LRA that shows closed wants Close
 closed_wants : (held : Bool) (x : Option Verdict) (e i u : Bool) → (cond held (Some (shown x e i u)) None ≡ Some Closed) ⊎ (cond held (Some (shown x e i u)) None ≡ Some FailedToClose) → x ≡ Some Close
 closed_wants held x e i u (inl s) = by held x e i u s
   where
@@ -104,7 +104,7 @@ closed_wants held x e i u (inr s) = by held x e i u s
     by true (Some Cancel) true i false s = absurd cc
     by true (Some Cancel) true i true s = absurd cc
 
--- what shows cancelled wants Cancel
+-- an LRA that shows cancelled wants Cancel
 cancelled_wants : (held : Bool) (x : Option Verdict) (e i u : Bool) → (cond held (Some (shown x e i u)) None ≡ Some Cancelled) ⊎ (cond held (Some (shown x e i u)) None ≡ Some FailedToCancel) → x ≡ Some Cancel
 cancelled_wants held x e i u (inl s) = by held x e i u s
   where
@@ -125,14 +125,14 @@ cancelled_wants held x e i u (inr s) = by held x e i u s
     by true (Some Close) true false u s = absurd cc
     by true (Some Close) true true u s = absurd cc
 
--- so what is shown closed in one and cancelled in another has an LRA further up that was cancelled
+-- so if an LRA is shown closed in one set and cancelled in another, an LRA further up was cancelled
 pub shown_parted : (h : History) → IsLawful h → (v w : List ℕ) → IsClosed h v → IsClosed h w → (l : Id) → IsShownClosed (facts h v) l → IsShownCancelled (facts h w) l → IsCancelledAbove h w l
 shown_parted h lawful v w cv cw l closed cancelled =
     parted h lawful v w cv cw l
     (closed_wants (is_held (facts h v) l) (want (facts h v) l) _ _ _ closed)
     (cancelled_wants (is_held (facts h w) l) (want (facts h w) l) _ _ _ cancelled)
 
--- and a root is not
+-- and a root is never shown so
 pub root_shown : (h : History) → IsLawful h → (v w : List ℕ) → IsClosed h v → IsClosed h w → (l : Id) → is_root (facts h v) l ≡ true → IsShownClosed (facts h v) l → IsShownCancelled (facts h w) l → ⊥
 root_shown h lawful v w cv cw l root closed cancelled =
     root_whole h lawful v w cv cw l root

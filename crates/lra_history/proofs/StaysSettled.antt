@@ -1,4 +1,4 @@
--- one more fact that is lawful keeps a set settled
+-- one more lawful fact keeps a set settled
 use Rattle.std.proofs.Common.{◌≡◌, ◌⊎◌, inl, inr, ◌≤◌, ◌<◌, ◌+◌, ◌&&◌, ℕ, List, [], ◌∷◌, ◌++◌, refl, sym, ap, subst, ◌∙◌, Bool, true, false, cond, arith, filter, length, nat_lt}
 use Rattle.std.proofs.lemmas.Bool.Decides.{nat_tests}
 use Rattle.lra_id.specs.Ids.{Id}
@@ -17,7 +17,7 @@ use Rattle.lra_facts.specs.declared.command.Command.{Command}
 use Rattle.lra_history.proofs.AcceptedCommands.{lawful_gives}
 use Rattle.lra_history.proofs.SettledFacts.{IsEntered, MeetsSettled, body_gives, begun_inside, chain_inside, earlier_new, filter_agree, meets_new, join_gives, named_new, number_within, settled_from, whole_from}
 
--- A list with one element more
+-- A list with one more element
 
 in_was : {X : Type 0} (before after : List X) (f g : X) → In g (before ++ after) → In g (before ++ f ∷ after)
 in_was [] after f g m = inr m
@@ -67,7 +67,7 @@ in_more f S T more = λ g m. subst (λ (U : List Fact). In g U) (sym more.is) (i
 pub new_more : (f : Fact) (S T : List Fact) → IsMore f S T → In f T
 new_more f S T more = subst (λ (U : List Fact). In f U) (sym more.is) (in_new more.before more.after f)
 
--- and there is no other
+-- and the set has no other fact
 pub either_more : (f g : Fact) (S T : List Fact) → IsMore f S T → In g T → (g ≡ f) ⊎ In g S
 either_more f g S T more m =
     elim (in_either more.before more.after f g (subst (λ (U : List Fact). In g U) more.is m)) [
@@ -87,7 +87,7 @@ once_more f S T more once =
 given_more : (f : Fact) (S T : List Fact) (l : Id) → IsMore f S T → numbers_given S l ≤ numbers_given T l
 given_more f S T l more = omega (arith, count_more f S T (λ g. gives_number l g.body) more)
 
--- the number that a fact gives stays
+-- the member number that an old fact gives stays the same
 number_stays : (f g : Fact) (S T : List Fact) (l : Id) → IsMore f S T → IsSettled S → (gives_number l f.body ≡ true → f.origin ≡ l.home) → In g S → gives_number l g.body ≡ true → member_number T l g.num ≡ member_number S l g.num
 number_stays f g S T l more settled home m e =
     let without : (gives_number l f.body && nat_lt f.num g.num) ≡ false = by (gives_number l f.body) refl in
@@ -104,7 +104,7 @@ number_stays f g S T l more settled home m e =
     by false t = refl
     by true t = lesser f.num g.num (more.newest g m (settled.seated.givers g l m e ∙ sym (home t)))
 
--- the new fact gives the next one
+-- the new fact gives the next member number
 number_next : (f : Fact) (S T : List Fact) (l : Id) → IsMore f S T → IsSettled S → f.origin ≡ l.home → member_number T l f.num ≡ numbers_given S l + 1
 number_next f S T l more settled home =
     let counted = count_more f S T (λ x. gives_number l x.body && nat_lt x.num f.num) more in
@@ -145,7 +145,7 @@ fit_old f g S T more settled home m =
           (old.0, omega (arith, old.1, given_more f S T l more));
     }
 
--- with one more fact that its node may enter, a settled set stays settled
+-- a settled set stays settled with one more fact that its node may enter
 pub settled_with : (f : Fact) (S T : List Fact) (v : List ℕ) (node : ℕ) (c : Command) → IsSettled S → IsCounted S v → 1 ≤ node → node ≤ length v → judge S v node c ≡ Accepted → f ≡ next_fact S v node c → IsMore f S T → IsSettled T
 settled_with f S T v node c settled counted some there taken is more =
     next_settled S T v node c settled counted taken (subst (λ (g : Fact). IsMore g S T) is more)

@@ -1,4 +1,4 @@
--- to take what is news of a view is to merge it
+-- taking what is news of a view is the same as merging it
 use Rattle.std.proofs.Common.{◌≡◌, ◌≤◌, ◌==◌, ◌&&◌, ◌||◌, ℕ, List, [], ◌∷◌, inl, inr, refl, sym, ap, ◌∙◌, Bool, true, false, cond, not, arith, Option, Some, None, length, map, find, is_some}
 use Rattle.std.proofs.lemmas.Bool.Decides.{nat_tests}
 use Rattle.std.specs.List.{AllByRecursion, list_any}
@@ -14,14 +14,14 @@ use Rattle.lra_history.proofs.JoinedFronts.{length_join}
 
 -- What is absorbed of an LRA
 
--- that the other purged it matters only where the other has none
+-- whether the other view purged an LRA matters only if it has no record of it
 gone_same : (covered gone past : Bool) (o p : Option Record) → (p ≡ None → gone ≡ past) → absorbed covered gone o p ≡ absorbed covered past o p
 gone_same covered gone past None None same = refl
 gone_same covered gone past None (Some t) same = refl
 gone_same covered gone past (Some r) None same = ap (λ (g : Bool). cond g None (Some r)) (same refl)
 gone_same covered gone past (Some r) (Some t) same = refl
 
--- where no record of an LRA is found among those of its home, none has its number
+-- if no record of an LRA is found among those of its home, none of them has its number
 unlisted : (l : Id) (rs : List Record) → AllByRecursion (λ (r : Record). r.home ≡ l.home) rs → find (is_of l) rs ≡ None → list_any (λ n. n == l.num) (map (λ (r : Record). r.num) rs) ≡ false
 unlisted l [] own none = refl
 unlisted l (r ∷ rs) own none = by (unlisted l rs own.1) (r.home == l.home) (r.num == l.num) (grind (arith, nat_tests, own.0)) none
@@ -35,7 +35,7 @@ not_listed : (b listed : Bool) → listed ≡ false → (b && not listed) ≡ b
 not_listed true listed e = ap not e
 not_listed false listed e = refl
 
--- where one is found, one has its number
+-- if a record is found, one of them has its number
 listed : (l : Id) (rs : List Record) → is_some (find (is_of l) rs) ≡ true → list_any (λ n. n == l.num) (map (λ (r : Record). r.num) rs) ≡ true
 listed l [] some = absurd cc
 listed l (r ∷ rs) some = by (listed l rs) (r.home == l.home) (r.num == l.num) some
@@ -49,14 +49,14 @@ is_listed : (b listed : Bool) → listed ≡ true → (b && not listed) ≡ fals
 is_listed true listed e = ap not e
 is_listed false listed e = refl
 
--- what isn't told of an LRA that is held changes nothing
+-- what is not told of an LRA that is held would change nothing
 told_same : (covered gone : Bool) (o p t : Option Record) → IsTold o p t → (is_some p ≡ true → gone ≡ false) → absorbed covered gone o t ≡ absorbed covered gone o p
 told_same covered gone o p t (inl same) held = ap (absorbed covered gone o) same
 told_same covered gone o None t (inr known) held = ap (absorbed covered gone o) known.0
 told_same covered gone None (Some p) t (inr known) held = absurd (let no = known.1 in cc)
 told_same covered gone (Some r) (Some p) t (inr known) held = ap (absorbed covered gone (Some r)) known.0 ∙ ap (λ (g : Bool). cond g None (Some r)) (held refl) ∙ sym known.1
 
--- of each LRA the same is absorbed as of the view that is told
+-- the same is absorbed of each LRA as from the view that is told
 taken_told : (a b : View) (telling : Telling) (l : Id) → TellsNews a telling b → 1 ≤ l.home → l.home ≤ length b.front → absorbed_of a telling l ≡ merged_of a b l
 taken_told a b telling l all low high =
     let rs = records_at b.records l.home in
@@ -71,7 +71,7 @@ taken_told a b telling l all low high =
 
 -- Taking what is news of a view is merging with it
 
--- the front of what comes of it counts as many nodes
+-- the front that results counts as many nodes
 same_nodes : (a b : View) (front : List ℕ) → length a.front ≡ length b.front → front ≡ join_fronts a.front b.front → length front ≡ length b.front
 same_nodes a b front nodes is = ap (λ (v : List ℕ). length v) is ∙ length_join a.front b.front nodes ∙ nodes
 

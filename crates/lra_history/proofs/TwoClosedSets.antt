@@ -25,13 +25,13 @@ use Rattle.lra_history.specs.Views.{IsCounted}
 use Rattle.lra_history.proofs.Prefixes.{IsLonger, longer, same_ascending}
 use Rattle.lra_history.proofs.Basics.{about_named, at_most, decision_names, giver_names}
 
--- where a participant is asked for an act
+-- the link at which a participant is asked for an act
 abbrev pub link_for : Act → Links → Option (List ℕ)
 link_for Complete links = links.complete
 link_for Compensate links = links.compensate
 
--- what the facts of closed sets keep besides: decisions, leaves and purges are their home's, and what is reported or marked
--- of a participant was asked by a link of its
+-- what else holds of the facts of closed sets: decisions, leaves and purges are their home's, and
+-- what is reported or marked of a participant was asked by one of its links
 pub record IsProper (U : List Fact) : Type 0 where
   pub leaves : (f : Fact) (l : Id) (m : ℕ) → In f U → is_leave l m f.body ≡ true → f.origin ≡ l.home
   pub decisions : (f : Fact) (l : Id) (v : Verdict) → In f U → is_decision l v f.body ≡ true → f.origin ≡ l.home
@@ -50,7 +50,7 @@ pub record AreTogether (S T U : List Fact) (v w : List ℕ) : Type 0 where
   pub counted_second : IsCounted T w
   pub proper : IsProper U
 
--- in the other order
+-- the same, in the other order
 pub swapped : (S T U : List Fact) (v w : List ℕ) → AreTogether S T U v w → AreTogether T S U w v
 swapped S T U v w t =
     record {
@@ -81,7 +81,7 @@ kept_num : (b : Bool) (n c : ℕ) → (b ≡ true → n ≤ c) → cond b n 0 �
 kept_num true n c f = f refl
 kept_num false n c f = omega arith
 
--- no stamp is beyond the front
+-- no stamp is beyond the front's count
 pub stamp_counted : (S : List Fact) (v : List ℕ) (l : Id) (node : ℕ) → IsCounted S v → stamp S l node ≤ count v node
 stamp_counted S v l node counted =
     most_least (λ f. cond ((f.origin == node) && is_about l f) f.num 0) S (count v node) (λ f m.
@@ -92,7 +92,7 @@ stamp_counted S v l node counted =
     origin_is : (a b : ℕ) (c : Bool) → ((a == b) && c) ≡ true → a ≡ b
     origin_is a b c e = grind (arith, nat_tests)
 
--- the stamp reaches each fact about the LRA
+-- the stamp reaches the number of each fact about the LRA
 pub stamp_reaches : (S : List Fact) (l : Id) (f : Fact) (node : ℕ) → In f S → f.origin ≡ node → is_about l f ≡ true → f.num ≤ stamp S l node
 stamp_reaches S l f node m at about =
     let test : ((f.origin == node) && is_about l f) ≡ true = rw about (same f.origin node at) in
@@ -105,7 +105,7 @@ stamp_reaches S l f node m at about =
 -- What one set knows of the other
 
 module _ (S T U : List Fact) (v w : List ℕ) (t : AreTogether S T U v w) where
-  -- a fact of the second that the first's front counts is in the first
+  -- a fact of the second set that the first front counts is in the first set
   pub known : (f : Fact) → In f T → f.num ≤ count v f.origin → In f S
   known f m bound =
       let some = t.counted_second.some f m in
@@ -113,19 +113,19 @@ module _ (S T U : List Fact) (v w : List ℕ) (t : AreTogether S T U v w) where
       let same : g.0 ≡ f = once_in U t.both.seated.once g.0 f (t.union.left g.0 g.1) (t.union.right f m) g.2 g.3 in
       subst (λ (x : Fact). In x S) same g.1
 
-  -- and so are all home facts about an LRA, where the first has the greater home stamp
+  -- and so is each home fact about an LRA, if the first set has the greater home stamp
   pub home_known : (l : Id) → stamp T l l.home ≤ stamp S l l.home → (f : Fact) → In f T → f.origin ≡ l.home → is_named l f.body ≡ true → In f S
   home_known l le f m at named =
       let reach = stamp_reaches T l f l.home m at (about_named l f named) in
       known f m (omega (arith, reach, le, stamp_counted S v l l.home t.counted_first, ap (count v) at))
 
-  -- so those that give its numbers
+  -- so is each fact that gives a member number of the LRA
   pub givers_known : (l : Id) → stamp T l l.home ≤ stamp S l l.home → IsInside (givers T l) (givers S l)
   givers_known l le f m =
       let g = giver_in T l f m in
       in_givers S l f (home_known l le f g.0 (t.second.seated.givers f l g.0 g.1) (giver_names l f.body g.1)) g.1
 
-  -- the union's are the first's
+  -- the givers of the union are those of the first set
   pub givers_union : (l : Id) → stamp T l l.home ≤ stamp S l l.home → givers U l ≡ givers S l
   givers_union l le =
       same_ascending (givers U l) (givers S l) (givers_ascend U l t.both.seated) (givers_ascend S l t.first.seated)
@@ -135,7 +135,7 @@ module _ (S T U : List Fact) (v w : List ℕ) (t : AreTogether S T U v w) where
       ])
       (λ f m. let g = giver_in S l f m in in_givers U l f (t.union.left f g.0) g.1)
 
-  -- and the second's are the first of them
+  -- and the givers of the second set are the first of them
   pub givers_longer : (l : Id) → stamp T l l.home ≤ stamp S l l.home → IsLonger (givers S l) (givers T l)
   givers_longer l le =
       longer (givers S l) (givers T l) (givers_ascend S l t.first.seated) (givers_ascend T l t.second.seated) (givers_known l le) (λ f m.
@@ -155,7 +155,7 @@ module _ (S T U : List Fact) (v w : List ℕ) (t : AreTogether S T U v w) where
           let same : g.0 ≡ f = once_in U t.both.seated.once g.0 f (t.union.right g.0 g.1) (t.union.left f m) g.2 g.3 in
           subst (λ (x : Fact). In x T) same g.1
 
-  -- a test that only home facts about an LRA pass finds in the union what it finds in the first
+  -- a test that only home facts about an LRA pass finds in the union what it finds in the first set
   test_union : (l : Id) → stamp T l l.home ≤ stamp S l l.home → (test : Fact → Bool) → ((f : Fact) → In f U → test f ≡ true → (f.origin ≡ l.home) × (is_named l f.body ≡ true)) → list_any test U ≡ list_any test S
   test_union l le test own =
       same_bools (list_any test U) (list_any test S)
@@ -165,11 +165,11 @@ module _ (S T U : List Fact) (v w : List ℕ) (t : AreTogether S T U v w) where
       ])
       (λ e. let f = any_gives test S e in any_from test U f.0 (t.union.left f.0 f.1) f.2)
 
-  -- who left
+  -- which participants left is what the first set says
   pub left_union : (l : Id) → stamp T l l.home ≤ stamp S l l.home → (m : ℕ) → list_any (λ f. is_leave l m f.body) U ≡ list_any (λ f. is_leave l m f.body) S
   left_union l le m = test_union l le (λ f. is_leave l m f.body) (λ f k e. (t.proper.leaves f l m k e, named_leave l m f.body e))
 
-  -- its decision
+  -- the decision is that of the first set
   pub decision_union : (l : Id) → stamp T l l.home ≤ stamp S l l.home → decision_of U l ≡ decision_of S l
   decision_union l le =
       let close : is_decided U Close l ≡ is_decided S Close l = test_union l le (λ f. is_decision l Close f.body) (λ f k e. (t.proper.decisions f l Close k e, decision_names l Close f.body e)) in

@@ -1,4 +1,5 @@
--- what a view replies and becomes is what the definitions give for each set that the view stands for
+-- what a view replies and what it becomes are what the definitions give for each set that the view
+-- stands for
 use Rattle.std.proofs.Common.{◌≡◌, inl, inr, ◌≤◌, ◌<◌, ◌+◌, ◌-◌, ℕ, List, [], refl, sym, ap, subst, ◌∙◌, Bool, true, false, arith, Option, Some, None, find, is_some, length, nat_lt}
 use Rattle.std.proofs.lemmas.Bool.Decides.{nat_tests}
 use Rattle.std.proofs.lemmas.List.{get_or_past}
@@ -37,7 +38,7 @@ use Rattle.lra_history.proofs.Covered.{found_of}
 use Rattle.lra_history.proofs.AcceptedCommands.{lawful_gives}
 use Rattle.lra_history.proofs.RemovedByPurge.{removal_said}
 
--- What is known of a command that is accepted, by any reading
+-- What is known of an accepted command, by any reading
 
 pub accepted_open : (o : Option Refusal) (known : Bool) (limit : Option Refusal) → judged o known limit ≡ Accepted → o ≡ None
 accepted_open (Some r) known limit e = absurd cc
@@ -70,7 +71,7 @@ found_id view l r found =
     let is = (find_in (is_of l) (records_at view.records l.home) r found).1 in
     (found_of l (records_at view.records l.home) r found, grind (arith, nat_tests, is))
 
--- and its home is there
+-- and its home is one of the nodes
 pub found_there : (view : View) (l : Id) (r : Record) → record_at view l ≡ Some r → 1 ≤ l.home → l.home ≤ length view.records
 found_there view l r found some = elim (at_most l.home (length view.records)) [
   | inl there ↦ there
@@ -81,7 +82,7 @@ found_there view l r found some = elim (at_most l.home (length view.records)) [
 pub changed_records : (view : View) (me : ℕ) (next : Record) (home : ℕ) → next.home ≡ home → 1 ≤ home → home ≤ length view.records → records_at (patched (one_change view me next) view).records home ≡ put_record next (records_at view.records home)
 changed_records view me next home same some there = (put_changes next view.records home same some there).here
 
--- of what has a record
+-- the record of an LRA that has one
 some_record : (o : Option Record) → is_some o ≡ true → (r : Record) × (o ≡ Some r)
 some_record None e = absurd cc
 some_record (Some r) e = (r, refl)
@@ -110,22 +111,22 @@ nest_passed view me p deadline taken =
     let after_full = open_first (full_by t p) _ after_inactive.1 in
     (passed (t.held p) NotHeld after_gone.0, equal_from p.home me (passed _ (NotHome p.home) after_away.0), less_by (t.numbers p) 32 (passed (nat_lt (t.numbers p) 32) MembersFull after_full.0))
 
--- as many members as the record has
+-- the LRA has given as many numbers as its record has members
 pub numbers_on : (view : View) (l : Id) (r : Record) → record_at view l ≡ Some r → (by_view view).numbers l ≡ length r.members
 numbers_on view l r found = ap (λ (o : Option Record). length (option_map_or (λ (q : Record). q.members) o [])) found
 
 -- What the definitions give
 
--- the reply is the set's, and with the change the view stands for the set with exactly the fact
+-- the reply is the set's, and with the change the view stands for the set with exactly this fact
 abbrev IsAdded : List Fact → View → ℕ → Command → Type 0
 IsAdded S view me c = (accepted_on view me c ≡ accepted S view.front me c) × AddsFact S view me c (Some (change_on view me c))
 
--- a command that changes the record of one LRA
+-- the same for a command that changes the record of one LRA
 changed_adds : (S : List Fact) (view : View) (me : ℕ) (c : Command) (l : Id) (r : Record) → record_at view l ≡ Some r → AddsFact S view me c (Some (one_change view me (record_after (next_fact_on view me c) r))) → AddsFact S view me c (Some (change_record view me c l))
 changed_adds S view me c l r found adds =
     subst (λ (k : Change). AddsFact S view me c (Some k)) (ap (λ (o : Option Record). option_map_or (λ (q : Record). one_change view me (record_after (next_fact_on view me c) q)) o (no_change view)) (sym found)) adds
 
--- where the set accepts a command, the view adds its fact
+-- if the set accepts a command, the view adds its fact
 pub is_added : (S : List Fact) (view : View) (me : ℕ) (c : Command) → IsPlain (length view.front) me c → 1 ≤ me → me ≤ length view.front → IsSettled S → StandsFor S view → judge S view.front me c ≡ Accepted → IsAdded S view me c
 is_added S view me (Begin None deadline) plain one there settled stands taken = (
   refl,

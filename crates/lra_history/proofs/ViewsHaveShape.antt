@@ -43,7 +43,7 @@ use Rattle.lra_history.proofs.Basics.{at_most, equal_from, held_begun, length_no
 
 -- Numbers of each node
 
--- where each node's number is at most the front's count, the list of them is below the front
+-- if each node's number is at most the front's count, the list of these numbers is below the front
 below_front : (g : ℕ → ℕ) (front : List ℕ) → ((node : ℕ) → g node ≤ count front node) → IsBelow (map g (nodes_to (length front))) front
 below_front g front each node = elim (at_most (length front) (node - 1)) [
   | inl past ↦
@@ -78,7 +78,7 @@ held_child S l c whole up held =
     let along : list_any (is_purged_root S) (chain S c) ≡ false = ap (list_any (is_purged_root S)) (chain_up S whole.nested c l up) ∙ rw no_root kept in
     rw (begun, along) refl
 
--- a fact that names a parent makes a nested LRA of it
+-- a fact that names a parent makes a nested member of the new LRA
 nested_by : (S : List Fact) (l p : Id) (num : ℕ) (body : Body) → parent_named body ≡ Some p → member_by S l num body ≡ Nested num
 nested_by S l p num (Begin parent deadline) e = refl
 nested_by S l p num (Join id m links) e = absurd cc
@@ -89,19 +89,19 @@ nested_by S l p num (Forgot id m) e = refl
 nested_by S l p num (Told id m) e = refl
 nested_by S l p num (Purge root) e = refl
 
--- the place that a record names
+-- the place that a record names as its parent
 placed_at : (S : List Fact) (l p : Id) (place : Place) → parent_of S l ≡ Some p → place_in S l.num (parent_of S l) ≡ Some place → place.slot ≡ member_number S p l.num
 placed_at S l p place up e =
     let named : Some (record { number = p.num; slot = member_number S p l.num }) ≡ Some place = sym (ap (place_in S l.num) up) ∙ e in
     let same : record { number = p.num; slot = member_number S p l.num } ≡ place = cc in
     ap (λ (x : Place). x.slot) (sym same)
 
--- an LRA of the same home
+-- another LRA of the same home
 abbrev beside : Id → ℕ → Id
 beside l num = record { home = l.home; num = num }
 
 module _ (S : List Fact) (view : View) (settled : IsSettled S) (stands : StandsFor S view) where
-  -- the view has the record of what is held
+  -- the view has the record of each LRA that is held
   held_found : (l : Id) → is_held S l ≡ true → record_at view l ≡ Some (record_of (length view.front) S l)
   held_found l held = stands_at (length view.front) l.home S (records_at view.records l.home) l (stands.records l.home (held_home S view l stands held) (held_within S view l stands held)).stands refl held
 
@@ -188,6 +188,6 @@ closed_shape h v view law closed stands =
           omega (arith, empty)
     ]
 
--- and so has the merge of two
+-- and so has the merge of two such views
 pub merged_shape : (h : History) (v w : List ℕ) (a b c : View) → IsLawful h → IsClosed h v → IsClosed h w → StandsFor (facts h v) a → StandsFor (facts h w) b → IsMerged a b c → HasShape c
 merged_shape h v w a b c law cv cw sa sb m = closed_shape h (join_fronts v w) c law (closed_join h v w cv cw) (merge_law h v w a b c law cv cw sa sb m)
