@@ -30,7 +30,8 @@ all_both : {X : Type 0} (P : X → Type 0) (xs ys : List X) → AllByRecursion P
 all_both P [] ys a b = b
 all_both P (x ∷ xs) ys a b = (a.0, all_both P xs ys a.1 b)
 
--- more that are of another home, or of this one of which there were none
+-- appended elements of another home change nothing for this home; appended elements of this home
+-- are all of it, if it had none before
 home_other : {X : Type 0} (h : X → ℕ) (home other : ℕ) (xs ys : List X) → (other ≡ home → ⊥) → AllByRecursion (λ x. h x ≡ other) ys → filter (λ x. h x == home) (xs ++ ys) ≡ filter (λ x. h x == home) xs
 home_other h home other xs ys not_same all =
     filter_append (λ x. h x == home) xs ys
@@ -59,7 +60,7 @@ taken_away l homes home some there low false e =
     get_or-set_other {A = List Record} homes (l.home - 1) (home - 1) (filter (λ r. not (is_of l r)) (records_at homes l.home)) []
     (λ s. let same : l.home ≡ home = omega (arith, s, some, low) in let clash : true ≡ false = sym (ap (λ (n : ℕ). n == home) same ∙ equal_itself home) ∙ e in cc)
 
--- without one and then without others is without them all
+-- taking out one record and then others is taking out all of them
 without_more : (l : Id) (ids : List Id) (records : List Record) → without ids (filter (λ r. not (is_of l r)) records) ≡ without (l ∷ ids) records
 without_more l ids [] = refl
 without_more l ids (r ∷ rs) = by (is_of l r) (list_any (λ x. is_of x r) ids) refl refl (without_more l ids rs)
@@ -135,7 +136,7 @@ patched_length change a = put_each_length change.records (remove_each change.rem
 
 -- One home
 
--- where the records before are those of the view
+-- the records before are those of the view
 module _ (kept : ReplicaState) (told : Told) (reach mine : ℕ) (front : List ℕ) (own : HomeRecords) (ids : List Id) (more : List Record)
     (some : 1 ≤ told.records.home) (home : own.home ≡ told.records.home) (all : mine ≡ count kept.front told.records.home)
     (at : slice_get kept.homes (told.records.home - 1) ≡ Some own)
@@ -167,7 +168,7 @@ module _ (kept : ReplicaState) (told : Told) (reach mine : ℕ) (front : List �
         shape = shape_there shape;
       }
 
-  -- no other records are those that are taken
+  -- no other records are the ones that are taken
   pub only_there : (after : List Record) → AreTakenAt (view_of kept) told reach after → AreInShape front told.records.home after → AreInShape front own.home (changed_by ids more own.records)
   only_there after there shape =
       let one = same_records told.records.home after (changed_by ids more (records_at (view_of kept).records told.records.home)) there.order.homes taken_there.order.homes there.order.ascending taken_there.order.ascending (λ n. there.taken n ∙ sym (taken_there.taken n)) in
@@ -175,7 +176,7 @@ module _ (kept : ReplicaState) (told : Told) (reach mine : ℕ) (front : List �
       (subst (λ (rs : List Record). AreInShape front told.records.home (changed_by ids more rs)) (sym own_records)
       (subst (λ (rs : List Record). AreInShape front told.records.home rs) one shape))
 
--- nothing is taken yet
+-- at first nothing is taken
 pub taken_none : (a : View) (telling : Telling) (homes : List HomeRecords) (change : Change) → change.removed ≡ [] → change.records ≡ [] → IsTakenTo a telling homes change 0
 taken_none a telling homes change ids records =
     record {
@@ -189,7 +190,7 @@ taken_none a telling homes change ids records =
       room = λ home low. omega (arith, ap (λ (xs : List Record). count_of_home home xs) records);
     }
 
--- one home more
+-- one more home is taken
 module _ (a : View) (telling : Telling) (told : Told) (reach k : ℕ) (homes rooms : List HomeRecords) (old new : Change)
     (so : IsTakenTo a telling homes old k) (grown : IsGrown a told reach rooms old new)
     (next : told.records.home ≡ k + 1) (at : slice_get telling.homes k ≡ Some told) (far : reach ≡ count telling.front (k + 1))
@@ -312,7 +313,7 @@ module _ (a : View) (telling : Telling) (told : Told) (reach k : ℕ) (homes roo
         room = room_for;
       }
 
--- When all homes are taken
+-- After all homes are taken
 
 no_records : (front : List ℕ) (home : ℕ) (rs : List Record) → rs ≡ [] → AreInShape front home rs
 no_records front home [] e = record { few = omega arith; in_place = λ num r at. absurd cc }
@@ -348,7 +349,7 @@ module _ (a : View) (telling : Telling) (homes : List HomeRecords) (change : Cha
         purges = below;
       }
 
--- the patch fits, where the view is that of what is kept
+-- the patch fits, if the view is that of what is kept
 pub taken_fits : (kept : ReplicaState) (telling : Telling) (change : Change) → IsTakenTo (view_of kept) telling kept.homes change (length kept.front) → length change.front ≡ length kept.front → length change.purges ≡ length kept.front → length change.records ≤ kept.index.spare → Fits change kept
 taken_fits kept telling change so front purges entries =
     record {
@@ -359,7 +360,7 @@ taken_fits kept telling change so front purges entries =
       entries = entries;
     }
 
--- a view that takes what is told has at each home what is taken of it
+-- a view that takes what is told has, at each home, what is taken of that home
 pub absorbed_there : (a c : View) (telling : Telling) (told : Told) (reach : ℕ) → IsAbsorbed a telling c → 1 ≤ told.records.home → told.records.home ≤ length a.front → slice_get telling.homes (told.records.home - 1) ≡ Some told → reach ≡ count telling.front told.records.home
     → AreTakenAt a told reach (records_at c.records told.records.home)
 absorbed_there a c telling told reach is low high at far =
@@ -378,7 +379,7 @@ absorbed_there a c telling told reach is low high at far =
 
 -- What is left to take
 
--- the homes before those that are left are taken
+-- the homes before those that are left are already taken
 pub record IsTakenSo (a : View) (telling : Telling) (kept : ReplicaState) (patch old : Change) (rest : List Told) : Type 0 where
   pub done : List Told
   pub all : telling.homes ≡ done ++ rest
@@ -412,7 +413,7 @@ module _ (a : View) (telling : Telling) (kept : ReplicaState) (patch old : Chang
       let place : told.records.home - 1 ≡ length so.done = omega (arith, numbered) in
       ap (slice_get telling.homes) place ∙ ap (λ ts. slice_get ts (length so.done)) so.all ∙ told_place so.done rest told
 
-  -- and is taken
+  -- and it is taken
   pub next_taken : (after : ReplicaState) (new : Change) (reach : ℕ) → reach ≡ count telling.front told.records.home → view_of after ≡ view_of kept → new.front ≡ patch.front → new.purges ≡ patch.purges
       → ((home : ℕ) → 1 ≤ home → spare_at kept.homes home ≤ spare_at after.homes home) → IsGrown (view_of kept) told reach after.homes patch new → IsTakenSo a telling after new old rest
   next_taken after new reach far view front purges room grown =
@@ -429,8 +430,8 @@ module _ (a : View) (telling : Telling) (kept : ReplicaState) (patch old : Chang
         so = subst (λ (n : ℕ). IsTakenTo a telling after.homes new n) (sym (length-append so.done (told ∷ []))) more;
       }
 
-  -- where it has not its shape, no view has it that takes what is told
-  -- (by uniqueness at one home, so no merge need be made up)
+  -- if the records taken at a home don't have their shape, no view that takes what is told has the
+  -- shape (this uses uniqueness at one home, so no merge has to be constructed)
   pub next_broken : (c : View) (reach : ℕ) → reach ≡ count telling.front told.records.home → ((after : List Record) → AreTakenAt (view_of kept) told reach after → AreInShape patch.front told.records.home after → ⊥)
       → IsAbsorbed a telling c → c.front ≡ old.front → HasShape c → ⊥
   next_broken c reach far none absorbed front shape =

@@ -1,4 +1,4 @@
--- homes without a record
+-- homes without records
 use Rattle.std.proofs.Common.{◌≡◌, ◌+◌, ◌++◌, ℕ, zero, suc, List, [], ◌∷◌, refl, sym, ap, subst, ◌∙◌, arith, length, map, replicate, add-one, ◌-◌, None, find, get_or}
 use Rattle.std.specs.List.{AllByRecursion}
 use Rattle.std.specs.Option.{option_map}
@@ -27,7 +27,7 @@ length_and : (homes : List HomeRecords) (home : HomeRecords) → length (homes +
 length_and [] home = refl
 length_and (h ∷ homes) home = omega (arith, length_and homes home)
 
--- their records, of which there are none, are in order
+-- the empty records of these homes are in order
 pub empty_ordered : (n : ℕ) (homes : List HomeRecords) → map (λ (h : HomeRecords). h.records) homes ≡ replicate n [] → AllByRecursion (λ (h : HomeRecords). AreOf h.home h.records) homes
 empty_ordered n [] e = tt
 empty_ordered zero (h ∷ homes) e = absurd cc
@@ -41,7 +41,7 @@ none_at zero k = refl
 none_at (suc n) zero = refl
 none_at (suc n) (suc k) = none_at n k
 
--- and have no stamps
+-- and they have no stamps
 pub empty_indexed : (n : ℕ) (homes : List HomeRecords) (origins : List (List Entry)) → map (λ (h : HomeRecords). h.records) homes ≡ replicate n [] → AreIndexesOf origins (λ (l : Id). None) → AreIndexesOf origins (stamps_in (records_in homes))
 empty_indexed n homes origins e none = by_each origins (λ (l : Id). None) (stamps_in (records_in homes)) (λ l. sym (nothing l)) none
   where
@@ -50,7 +50,7 @@ empty_indexed n homes origins e none = by_each origins (λ (l : Id). None) (stam
         let records : get_or (records_in homes) (l.home - 1) [] ≡ [] = ap (λ (rs : List (List Record)). get_or rs (l.home - 1) []) e ∙ none_at n (l.home - 1) in
         ap (λ (rs : List Record). option_map (λ (r : Record). r.stamps) (find (is_of l) rs)) records
 
--- one more of them
+-- one more empty home
 pub one_more_home : (n : ℕ) (homes : List HomeRecords) (home : HomeRecords) → AreEmptyHomes n homes → home.home ≡ n + 1 → home.records ≡ [] → AreEmptyHomes (n + 1) (homes ++ home ∷ [])
 one_more_home n homes home are at none =
     record {

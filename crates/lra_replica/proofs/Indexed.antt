@@ -1,4 +1,4 @@
--- the stamps that records have, when one record is put or taken away
+-- the stamps that records have after one record is put or taken away
 use Rattle.std.proofs.Common.{◌≡◌, ◌≤◌, ◌<◌, ◌-◌, ◌==◌, ℕ, List, [], refl, sym, ap, ◌∙◌, Bool, true, false, cond, arith, Option, Some, None, find, filter, length, get_or, set}
 use mathlib.Core.Bool.{not}
 use Rattle.std.specs.Option.{option_map}
@@ -15,11 +15,11 @@ use Rattle.lra_forest.proofs.Puts.{put_find}
 use Rattle.lra_index.specs.Indexes.{with_stamps}
 use Rattle.lra_replica.specs.Replicas.{stamps_in}
 
--- the stamps of what is found
+-- the stamps of a record that is found
 abbrev st : Option Record → Option (List ℕ)
 st o = option_map (λ (r : Record). r.stamps) o
 
--- of one home whose records become others
+-- the stamps after the records of one home are replaced
 changed : (records : List (List Record)) (i : ℕ) (new : List Record) (id : Id) (stamps : Option (List ℕ)) → 1 ≤ id.home → i ≡ id.home - 1 → i < length records
     → ((l : Id) → cond (same_id l id) stamps (st (find (is_of l) (get_or records i []))) ≡ st (find (is_of l) new))
     → (l : Id) → with_stamps id stamps (stamps_in records) l ≡ stamps_in (set records i new) l

@@ -1,4 +1,4 @@
--- What is made of a command goes by the records of one home alone.
+-- The result of a command depends only on the records of one home.
 use Rattle.std.specs.Option.{option_map_or}
 use Rattle.std.proofs.Common.{◌≡◌, ◌≤◌, ◌-◌, ◌==◌, ℕ, List, [], ◌∷◌, refl, sym, ap, subst, ◌∙◌, Bool, true, false, Option, Some, None, cond, is_some, length, slice_get}
 use Rattle.lra_id.specs.Ids.{Id}
@@ -18,11 +18,11 @@ use Rattle.lra_replica.specs.AtHome.{by_home, lost_by, named_by}
 use Rattle.lra_replica.specs.Replicas.{ReplicaState, view_of}
 use Rattle.lra_replica.proofs.Homes.{lost_here}
 
--- the home of the LRA that a command names, else the node itself
+-- the home of the LRA that a command names, or the node itself if it names none
 abbrev pub home_by : Command → ℕ → ℕ
 home_by c me = option_map_or (λ (l : Id). l.home) (named_by c) me
 
--- what comes last needs only be the same where the third test is passed
+-- the last refusals need to be the same only if the third test is passed
 last_alike : (a b d e f : Option Refusal) (t : Bool) (r : Refusal) (x y : Option Refusal) → (t ≡ true → x ≡ y)
     → first (a ∷ b ∷ unless t r ∷ d ∷ e ∷ f ∷ x ∷ []) ≡ first (a ∷ b ∷ unless t r ∷ d ∷ e ∷ f ∷ y ∷ [])
 last_alike (Some a) b d e f t r x y same = refl
@@ -48,7 +48,7 @@ judged_here view me (Forgot l m) = refl
 judged_here view me (Told l m) = refl
 judged_here view me (Purge root) = refl
 
--- by the records of the home that it goes to
+-- the judgement is the same by the records of the home that the command goes to
 pub judged_at_home : (view : View) (me : ℕ) (c : Command) (home : ℕ) (records : List Record) → home ≡ home_by c me → records_at view.records home ≡ records → judge_on view me c ≡ judge_by (by_home records) view.front me c
 judged_at_home view me c home records at are =
     judged_here view me c ∙ ap (λ (rs : List Record). judge_by (by_home rs) view.front me c) (ap (records_at view.records) (sym at) ∙ are)
@@ -59,7 +59,7 @@ lost_first true true rest known limit none = absurd cc
 lost_first true false rest known limit none = refl
 lost_first false held rest known limit none = refl
 
--- where that home is no node, it is refused
+-- if that home is no node, the command is refused
 pub judged_nowhere : (kept : ReplicaState) (me : ℕ) (c : Command) (home : ℕ) → home ≡ home_by c me → slice_get kept.homes (home - 1) ≡ None → me ≤ length kept.front → (home ≤ length kept.front → ⊥)
     → judge_on (view_of kept) me c ≡ Denied (lost_by kept.front c)
 judged_nowhere kept me c home at none there beyond = by c at

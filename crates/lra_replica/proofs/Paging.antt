@@ -1,4 +1,4 @@
--- The next of the LRAs that are held, and pages of them.
+-- The next of the LRAs that are held, and pages of such LRAs.
 use Rattle.std.proofs.Common.{◌≡◌, ◌≤◌, ◌<◌, ◌+◌, ◌-◌, ◌⊎◌, ◌&&◌, inl, inr, ℕ, List, [], ◌∷◌, ◌++◌, refl, sym, ap, subst, ◌∙◌, Bool, true, false, cond, arith, Option, Some, None, is_some, length, filter, find, nat_lt, slice_get}
 use Rattle.std.specs.List.{AllByRecursion}
 use Rattle.std.proofs.lemmas.Bool.Decides.{nat_tests}
@@ -44,7 +44,7 @@ all_map P Q (x ∷ xs) f h = (f x h.0, all_map P Q xs f h.1)
 
 -- What a reading lists
 
--- one that is listed has a number that a fact can have, and is held
+-- an LRA that is listed has a number that a fact can have, and is held
 listed_num : (t : Reading) (l : Id) → is_listed t l ≡ true → IsFactNumber l.num
 listed_num t l listed = let e = and_left (is_fact_number l.num) (t.held l) listed in fact_number l.num e
 
@@ -54,7 +54,7 @@ listed_held t l listed = and_right (is_fact_number l.num) (t.held l) listed
 some_num : (t : Reading) (l : Id) → is_listed t l ≡ true → 0 < l.num
 some_num t l listed = omega (arith, (listed_num t l listed).0)
 
--- a home's records are all that is told of its LRAs
+-- the records of a home are exactly what the reading tells of its LRAs
 pub record AreTold (t : Reading) (home : ℕ) (rs : List Record) : Type 0 where
   pub order : AreOf home rs
   pub told : (l : Id) → l.home ≡ home → t.held l ≡ is_some (find (is_of l) rs)
@@ -71,7 +71,7 @@ record_held t home rs r are inside =
     let own : id_of r ≡ at home r.num = ap (λ (h : ℕ). at h r.num) (all_in (λ (x : Record). x.home ≡ home) rs are.order.homes r inside) in
     ap t.held own ∙ are.told (at home r.num) refl ∙ ap is_some (found_in home rs r are.order inside)
 
--- one that is held with a greater number has a record among those with greater numbers
+-- a held LRA with a greater number has a record among those with greater numbers
 held_later : (t : Reading) (home num : ℕ) (rs : List Record) (l : Id) → AreTold t home rs → l.home ≡ home → num < l.num → t.held l ≡ true → (r : Record) × In r (filter (λ (r : Record). nat_lt num r.num) rs) × (r.num ≡ l.num)
 held_later t home num rs l are own more held =
     let found = some_of (find (is_of l) rs) (sym (are.told l own) ∙ held) in
@@ -79,11 +79,11 @@ held_later t home num rs l are own more held =
     let number : found.0.num ≡ l.num = (let is = inside.1 in grind (arith, nat_tests, is)) in
     (found.0, in_filter (λ (r : Record). nat_lt num r.num) rs found.0 inside.0 (less_true num found.0.num (omega (arith, more, number))), number)
 
--- those with greater numbers are in order
+-- the records with greater numbers are in order
 later_order : (t : Reading) (home num : ℕ) (rs qs : List Record) (q : Record) → AreTold t home rs → filter (λ (r : Record). nat_lt num r.num) rs ≡ q ∷ qs → AreOf home (q ∷ qs)
 later_order t home num rs qs q are e = subst (AreOf home) e (filter_are_of (λ (r : Record). nat_lt num r.num) home rs are.order)
 
--- so each of them has the number of the first, or a greater one
+-- so each of them has the number of the first record, or a greater one
 not_lesser : (t : Reading) (home num : ℕ) (rs qs : List Record) (q : Record) (l : Id) → AreTold t home rs → filter (λ (r : Record). nat_lt num r.num) rs ≡ q ∷ qs → l.home ≡ home → num < l.num → t.held l ≡ true → q.num ≤ l.num
 not_lesser t home num rs qs q l are e own more held =
     let found = held_later t home num rs l are own more held in
@@ -93,7 +93,7 @@ not_lesser t home num rs qs q l are e own more held =
     first r number (inl same) = omega (arith, number, ap (λ (x : Record). x.num) same)
     first r number (inr later) = omega (arith, number, all_in (λ (x : Record). q.num < x.num) qs (later_order t home num rs qs q are e).ascending.0 r later)
 
--- of the records with greater numbers the first is the next LRA
+-- the first of the records with greater numbers is that of the next LRA
 next_some : (t : Reading) (home num : ℕ) (rs qs : List Record) (q : Record) → AreTold t home rs → filter (λ (r : Record). nat_lt num r.num) rs ≡ q ∷ qs → is_fact_number q.num ≡ true → IsNextAt t home num (Some (id_of q))
 next_some t home num rs qs q are e number =
     let inside = filter_in (λ (r : Record). nat_lt num r.num) rs q (subst (λ (xs : List Record). In q xs) (sym e) (inl refl)) in (
@@ -103,7 +103,7 @@ next_some t home num rs qs q are e number =
       λ l own above lesser. false_from (is_listed t l) (λ listed. let most = not_lesser t home num rs qs q l are e own above (listed_held t l listed) in omega (arith, most, lesser)),
     )
 
--- a first that has no fact's number is beyond them all
+-- if the first of them has a number that no fact can have, there is no next LRA
 next_past : (t : Reading) (home num : ℕ) (rs qs : List Record) (q : Record) → AreTold t home rs → filter (λ (r : Record). nat_lt num r.num) rs ≡ q ∷ qs → is_fact_number q.num ≡ false → IsNextAt t home num None
 next_past t home num rs qs q are e number l own above = false_from (is_listed t l) (λ listed.
     let inside = filter_in (λ (r : Record). nat_lt num r.num) rs q (subst (λ (xs : List Record). In q xs) (sym e) (inl refl)) in
@@ -130,21 +130,21 @@ next_here t home num rs (q ∷ qs) o are e none some = subst (IsNextAt t home nu
 
 -- A replica
 
--- what it tells of a home's LRAs
+-- the records of a home in a replica are what it tells of the home's LRAs
 pub told_here : (kept : ReplicaState) (home : ℕ) (f : HomeRecords) → IsReplicaState kept → 1 ≤ home → slice_get kept.homes (home - 1) ≡ Some f → AreTold (by_view (view_of kept)) home f.records
 told_here kept home f is some at = record {
   order = subst (AreOf home) (home_records kept home f at) (kept_in_order kept is home some (home_within kept home f is some at));
   told = λ l own. ap is_some (found_here kept l f (ap (λ (n : ℕ). slice_get kept.homes (n - 1)) own ∙ at));
 }
 
--- where there is no such home, none is next
+-- if there is no such home, it has no next LRA
 pub next_nowhere : (kept : ReplicaState) (home num : ℕ) → slice_get kept.homes (home - 1) ≡ None → IsNextAt (by_view (view_of kept)) home num None
 next_nowhere kept home num none l own more = false_from (is_listed (by_view (view_of kept)) l) (λ listed.
     let lost = ap is_some (lost_here kept l (ap (λ (n : ℕ). slice_get kept.homes (n - 1)) own ∙ none)) in
     let both : true ≡ false = sym (listed_held (by_view (view_of kept)) l listed) ∙ lost in
     cc)
 
--- what is listed is of one of so many nodes
+-- every LRA that is listed has one of `nodes` homes
 abbrev pub IsWithin : ℕ → Reading → Type 0
 IsWithin nodes t = (l : Id) → is_listed t l ≡ true → (1 ≤ l.home) × (l.home ≤ nodes)
 
@@ -183,7 +183,7 @@ row_alike S view after row settled stands is =
     let held = sym (listed_alike S view row.id stands) ∙ is.held in
     record { held = held; beyond = is.beyond; status = is.status ∙ (view_alike S view settled stands).shows row.id (listed_held (by_facts S) row.id held) }
 
--- so a page of the one is a page of the other
+-- so a page of the one reading is a page of the other
 pub page_alike : (S : List Fact) (view : View) (after : Option Id) (page : PageRows) → IsSettled S → StandsFor S view → IsPage (by_view view) after page → IsPage (by_facts S) after page
 page_alike S view after page settled stands is = record {
   order = is.order;
@@ -199,7 +199,7 @@ page_alike S view after page settled stands is = record {
 abbrev pub AreBare : Reading → (home last : ℕ) → Type 0
 AreBare t home last = (l : Id) → home < l.home → l.home ≤ last → is_listed t l ≡ false
 
--- one home more
+-- the same with one more home
 pub bare_more : (t : Reading) (home last next : ℕ) → next ≡ last + 1 → AreBare t home last → IsNextAt t next 0 None → AreBare t home (last + 1)
 bare_more t home last next is bare none l after within = false_from (is_listed t l) (λ held.
     elim (at_most l.home last) [
@@ -220,7 +220,7 @@ pub first_none : (t : Reading) (nodes home last : ℕ) → IsWithin nodes t → 
 first_none t nodes home last within all bare l after = false_from (is_listed t l) (λ held.
     let wrong = bare l after (omega (arith, all, (within l held).1)) in let both : true ≡ false = sym held ∙ wrong in absurd cc)
 
--- the first of all
+-- the first LRA of all
 pub first_of_all : (t : Reading) (nodes : ℕ) (o : Option Id) → IsWithin nodes t → IsFirstBeyond t 0 o → IsNext t None o
 first_of_all t nodes None within first = λ l beyond. false_from (is_listed t l) (λ held.
     let wrong = first l (omega (arith, (within l held).0)) in let both : true ≡ false = sym held ∙ wrong in absurd cc)
@@ -231,7 +231,7 @@ first_of_all t nodes (Some n) within first = (
       let wrong = first.2 l (omega (arith, (within l held).0)) before in let both : true ≡ false = sym held ∙ wrong in absurd cc),
 )
 
--- the next at the same home
+-- the next LRA is the next one at the same home
 pub next_same : (t : Reading) (id n : Id) → IsNextAt t id.home id.num (Some n) → IsNext t (Some id) (Some n)
 next_same t id n next = (next.0, inr (sym next.1, next.2), between)
   where
@@ -241,7 +241,7 @@ next_same t id n next = (next.0, inr (sym next.1, next.2), between)
     between l (inr after) (inl before) = absurd (omega (arith, after.0, before, next.1))
     between l (inr after) (inr before) = next.3 l (sym after.0) after.1 before.1
 
--- or the first of the homes after it
+-- or the first one of the homes after it
 pub next_other : (t : Reading) (id : Id) (o : Option Id) → IsNextAt t id.home id.num None → IsFirstBeyond t id.home o → IsNext t (Some id) o
 next_other t id None none first = past
   where
@@ -266,7 +266,7 @@ beyond_trans : (after : Option Id) (b c : Id) → IsBeyond after b → IsBefore 
 beyond_trans None b c x y = tt
 beyond_trans (Some a) b c x y = before_trans a b c x y
 
--- of two LRAs one comes first, or they are one
+-- of two LRAs one comes first, or they are the same
 which_first : (a b : Id) → IsBefore a b ⊎ ((a ≡ b) ⊎ IsBefore b a)
 which_first a b =
     elim (three a.home b.home) [
@@ -297,7 +297,7 @@ last_in : {X : Type 0} (x : X) (xs : List X) → In x (xs ++ x ∷ [])
 last_in x [] = inl refl
 last_in x (y ∷ ys) = inr (last_in x ys)
 
--- rows so far: those of all LRAs that are held beyond `after` and not beyond `last`
+-- the rows so far: those of all held LRAs after `after`, up to `last`
 pub record AreRows (t : Reading) (after last : Option Id) (rows : List Row) : Type 0 where
   pub order : AreAscending rows
   pub each : AllByRecursion (IsRow t after) rows
@@ -309,7 +309,7 @@ pub no_rows : (t : Reading) (after : Option Id) (rows : List Row) → rows ≡ [
 no_rows t after [] e = record { order = tt; each = tt; below = λ l h. tt; beyond = λ l h. h; all = λ l held h. inr h }
 no_rows t after (r ∷ rs) e = absurd cc
 
--- one row more
+-- one more row
 pub row_more : (t : Reading) (after last : Option Id) (rows : List Row) (row : Row) → AreRows t after last rows → IsNextRow t last (Some row) → AreRows t after (Some row.id) (rows ++ row ∷ [])
 row_more t after last rows row are next = record {
   order = ascending_with rows row are.order (are.below row.id next.0.1);
@@ -329,7 +329,7 @@ row_more t after last rows row are next = record {
       | inr (inr greater) ↦ inr greater
     ]
 
--- where none follows it is a page
+-- if no LRA follows, the rows are a page
 pub page_last : (t : Reading) (after last : Option Id) (rows : List Row) → length rows ≤ 64 → AreRows t after last rows → IsNext t last None → IsPage t after (record { rows = rows; more = false })
 page_last t after last rows few are none = record {
   order = are.order;
@@ -342,7 +342,7 @@ page_last t after last rows few are none = record {
   more = λ e. absurd (let both : false ≡ true = e in cc);
 }
 
--- and where there are 64
+-- and so they are if there are 64 of them
 pub page_full : (t : Reading) (after last next : Option Id) (rows : List Row) → length rows ≡ 64 → AreRows t after last rows → IsNext t last next → IsPage t after (record { rows = rows; more = is_some next })
 page_full t after last None rows full are none = page_last t after last rows (omega (arith, full)) are none
 page_full t after last (Some n) rows full are next = record {

@@ -1,4 +1,5 @@
--- What a prepare answers by its view alone, and that this is what the definitions give for each set that the view stands for
+-- What a prepare answers from its view alone, and that this is what the definitions give for each
+-- set that the view stands for
 use Rattle.std.proofs.Common.{◌≡◌, ◌⊎◌, inl, inr, ◌≤◌, ◌<◌, ◌+◌, ◌-◌, ℕ, zero, suc, List, [], ◌∷◌, refl, sym, ap, subst, ◌∙◌, Bool, true, false, arith, Option, Some, None, Result, Ok, Err, IfOk, is_some, length}
 use Rattle.std.specs.Option.{option_map_or}
 use Rattle.lra_id.specs.Ids.{Id}
@@ -47,12 +48,12 @@ answer_accepted j reply given change made e same is =
 
 -- A leave
 
--- a participant has a number
+-- a participant that is found has a number from 1 on
 some_number : (at : ℕ → Option Record) (num m : ℕ) → is_some (participant_at (numbered (members_at at num) m)) ≡ true → 1 ≤ m
 some_number at num zero e = absurd cc
 some_number at num (suc m) e = omega arith
 
--- a command that changes one member of an LRA changes its record so
+-- a command that changes one member of an LRA changes its record in that member
 pub member_next : (view : View) (me : ℕ) (c : Command) (l : Id) (m : ℕ) (f : Member → Member) (reply : CommandReply) (copy : Record) (members : List Member) (change : Change)
     → (judge_on view me c ≡ Accepted → 1 ≤ m) → reply ≡ accepted_on view me c → change_record view me c l ≡ change_on view me c
     → ((old : Record) → record (with_stamp me (count view.front me + 1) old) { members = member_changed f (m - 1) old.members } ≡ record_after (next_fact_on view me c) old)
@@ -77,7 +78,7 @@ decided_change view me l verdict copy ready =
     ap (one_change view me) (record_next view me l verdict copy ready.1.0 ready.1.2)
     ∙ ap (λ (o : Option Record). option_map_or (λ (r : Record). one_change view me (record_after (next_fact_on view me c) r)) o (no_change view)) (sym ready.1.1)
 
--- what is shown with it in its place is what the changed view tells
+-- what is shown with the decided record in place is what the changed view tells
 pub decided_shows : (view : View) (me : ℕ) (l : Id) (verdict : Verdict) (copy : Record) (shown : Result LraStatus Refusal) → 1 ≤ me → IsReadyNext view me (Decide l verdict) l (Ok copy)
     → (is_some (record_at view (id_of copy)) ≡ true → shown ≡ Ok (shown_at (found_at copy.home (put_record (record copy { decision = Some verdict }) (records_at view.records copy.home))) copy.num))
     → shown ≡ Ok ((by_view (changed view me (Decide l verdict))).shows l)
@@ -140,7 +141,7 @@ nest_few view me p deadline copy taken found =
       omega (arith, own.2, numbers_on view p found.0 found.1, ap (λ (r : Record). length r.members) found.2),
     )
 
--- That a participant was told something
+-- Notices that a participant was told to forget or told of the end
 
 forgot_some : (view : View) (me : ℕ) (l : Id) (m : ℕ) → judge_on view me (Forgot l m) ≡ Accepted → 1 ≤ m
 forgot_some view me l m taken =
@@ -182,7 +183,7 @@ prepared_settled S view me c result plain there settled stands some next = by (j
     by AlreadyKnown here e is = subst (λ (x : Result Prepared Refusal). IsPrepared S view me c x) (sym is) (sym (ap (λ (j : Judgement). reply_by j (accepted S view.front me c)) e), e)
     by Accepted here e is = taken here e result some is
 
--- of a node, every begin is plain
+-- every command is plain for one of the nodes
 plain_at : (nodes me : ℕ) (c : Command) → 1 ≤ me → me ≤ nodes → IsPlain nodes me c
 plain_at nodes me (Begin parent deadline) some there = (some, there)
 plain_at nodes me (Join l links) some there = tt
@@ -193,7 +194,7 @@ plain_at nodes me (Forgot l m) some there = tt
 plain_at nodes me (Told l m) some there = tt
 plain_at nodes me (Purge root) some there = tt
 
--- so of each node and of each settled set
+-- so it is for each node and each settled set
 pub prepared_of_set : (S : List Fact) (view : View) (me : ℕ) (c : Command) (result : Result Prepared Refusal) → 1 ≤ me → me ≤ length view.front → IsSettled S → StandsFor S view → IsNext view me c result → IsPrepared S view me c result
 prepared_of_set S view me c result some there settled stands next =
     prepared_settled S view me c result (plain_at (length view.front) me c some there) there settled stands (some_if_ok result) next

@@ -1,4 +1,4 @@
--- One home of a replica changed: its records and its room.
+-- One changed home of a replica: its records and its room.
 use Rattle.std.proofs.Common.{◌≡◌, inl, inr, ◌≤◌, ◌<◌, ◌+◌, ◌-◌, ◌==◌, ℕ, zero, suc, List, [], ◌∷◌, refl, sym, ap, subst, ◌∙◌, Bool, true, false, cond, arith, Some, length, map, get_or, slice_get, set, filter}
 use Rattle.std.proofs.lemmas.Bool.{cases_lt}
 use Rattle.std.proofs.lemmas.Bool.Decides.{nat_tests}
@@ -20,13 +20,13 @@ homes_with k (h ∷ homes) (suc i) new d e same are = (are.0, homes_with (k + 1)
 abbrev IsOrdered : HomeRecords → Type 0
 IsOrdered home = AreOf home.home home.records
 
--- those of each home are
+-- the records of each home are of it and in order
 pub ordered_at : (homes : List HomeRecords) (i : ℕ) (d : HomeRecords) → i < length homes → AllByRecursion (λ (h : HomeRecords). AreOf h.home h.records) homes → AreOf (get_or homes i d).home (get_or homes i d).records
 ordered_at [] i d e each = absurd (omega (arith, e))
 ordered_at (h ∷ homes) zero d e each = each.0
 ordered_at (h ∷ homes) (suc i) d e each = ordered_at homes i d (omega (arith, e)) each.1
 
--- also of one that is named by what stands there
+-- the same for a home that is named by what stands at its place
 pub ordered_here : (homes : List HomeRecords) (i : ℕ) (h : HomeRecords) → i < length homes → h ≡ get_or homes i h → AllByRecursion (λ (x : HomeRecords). AreOf x.home x.records) homes → AreOf h.home h.records
 ordered_here homes i h e is each = subst IsOrdered (sym is) (ordered_at homes i h e each)
 
@@ -35,11 +35,12 @@ ordered_with [] i new here each = tt
 ordered_with (h ∷ homes) zero new here each = (here, each.1)
 ordered_with (h ∷ homes) (suc i) new here each = (each.0, ordered_with homes i new here each.1)
 
--- a home of which only the room changed
+-- if only the room of a home changed, the records stay
 pub same_records : (homes : List HomeRecords) (i : ℕ) (new d : HomeRecords) → new.records ≡ (get_or homes i d).records → records_in (set homes i new) ≡ records_in homes
 same_records homes i new d e = map-set_same (λ (h : HomeRecords). h.records) homes i new d e
 
--- they are still one home for each node, with its records in order, and the index is still theirs
+-- after the change there is still one home for each node, with its records in order, and the index
+-- is still theirs
 pub kept_with : (front purges : List ℕ) (homes : List HomeRecords) (index : HeldIndex) (i : ℕ) (new d : HomeRecords) → i < length homes → new.home ≡ (get_or homes i d).home → new.records ≡ (get_or homes i d).records → AreOf new.home new.records →
     IsReplicaState (record { front = front; purges = purges; homes = homes; index = index }) → IsReplicaState (record { front = front; purges = purges; homes = set homes i new; index = index })
 kept_with front purges homes index i new d e same records order is =
@@ -58,7 +59,7 @@ home_numbered k [] i d e are = absurd (omega (arith, e))
 home_numbered k (h ∷ homes) zero d e are = omega (arith, are.0)
 home_numbered k (h ∷ homes) (suc i) d e are = omega (arith, home_numbered (k + 1) homes i d (omega (arith, e)) are.1)
 
--- the records of the homes
+-- the records of the homes after one was changed
 pub records_with : (homes : List HomeRecords) (i : ℕ) (new : HomeRecords) → map (λ (h : HomeRecords). h.records) (set homes i new) ≡ set (map (λ (h : HomeRecords). h.records) homes) i new.records
 records_with homes i new = map-set (λ (h : HomeRecords). h.records) homes i new
 
@@ -77,17 +78,17 @@ set_there (h ∷ homes) zero (suc j) new e = refl
 set_there (h ∷ homes) (suc i) zero new e = refl
 set_there (h ∷ homes) (suc i) (suc j) new e = set_there homes i j new (λ same. e (ap suc same))
 
--- two that are named by what stands at one place are one
+-- two homes that are named by what stands at one place are the same
 pub here_same : (homes : List HomeRecords) (i : ℕ) (h k : HomeRecords) → i < length homes → h ≡ get_or homes i h → k ≡ get_or homes i k → h ≡ k
 here_same [] i h k e is was = absurd (omega (arith, e))
 here_same (x ∷ homes) zero h k e is was = is ∙ sym was
 here_same (x ∷ homes) (suc i) h k e is was = here_same homes i h k (omega (arith, e)) is was
 
--- what room a home has
+-- the room of a home
 pub spare_is : (homes : List HomeRecords) (home : ℕ) (d : HomeRecords) → home - 1 < length homes → spare_at homes home ≡ (get_or homes (home - 1) d).spare
 spare_is homes home d e = let there = slice_get-get_or homes (home - 1) d e in rw there refl
 
--- and each home's after one was changed
+-- and the room of each home after one was changed
 pub spare_with : (homes : List HomeRecords) (i : ℕ) (new d : HomeRecords) (more : ℕ) → i < length homes → (get_or homes i d).spare ≤ new.spare + more →
     (home : ℕ) → 1 ≤ home → spare_at homes home ≤ spare_at (set homes i new) home + cond ((i + 1) == home) more 0
 spare_with homes i new d more e room home some = by ((i + 1) == home) refl
@@ -112,7 +113,7 @@ count_here r rs = by (r.home == r.home) refl
     by true t = omega arith
     by false t = absurd (grind (arith, nat_tests, t))
 
--- one of them is put, and there is room for the others
+-- one of the records is put, and there is still room for the others
 pub count_first : (home : ℕ) (r : Record) (rs : List Record) (old new : ℕ) → count_of_home home (r ∷ rs) ≤ old → old ≤ new + cond (r.home == home) 1 0 → count_of_home home rs ≤ new
 count_first home r rs old new e room = by (r.home == home) e room
   where
@@ -127,7 +128,7 @@ none_left (x ∷ xs) e = absurd (omega (arith, e))
 pub spare_new : (homes : List HomeRecords) (home : ℕ) (new : HomeRecords) → home - 1 < length homes → spare_at (set homes (home - 1) new) home ≡ new.spare
 spare_new homes home new e = let there = set_here homes (home - 1) new e in rw there refl
 
--- room that is kept twice is kept
+-- keeping room is transitive
 pub keeps_on : (a b c : ReplicaState) → KeepsRoom a b → KeepsRoom b c → KeepsRoom a c
 keeps_on a b c first then = record {
   homes = λ home some. omega (arith, first.homes home some, then.homes home some);
@@ -136,11 +137,11 @@ keeps_on a b c first then = record {
 
 -- Little room
 
--- a home that isn't there has none
+-- a home that doesn't exist has no room
 pub spare_past : (homes : List HomeRecords) (home : ℕ) → length homes < home → spare_at homes home ≤ 16
 spare_past homes home past = let none = slice_get_past homes (home - 1) (omega (arith, past)) in rw none (omega arith)
 
--- one home more has little
+-- one more home has little room
 pub spare_next : (old new : List HomeRecords) (place : ℕ) → ((home : ℕ) → 1 ≤ home → home ≤ place → spare_at old home ≤ 16) → spare_at new (place + 1) ≤ 16
     → ((home : ℕ) → 1 ≤ home → (home ≡ place + 1 → ⊥) → spare_at new home ≡ spare_at old home) → (home : ℕ) → 1 ≤ home → home ≤ place + 1 → spare_at new home ≤ 16
 spare_next old new place so_far own others home some high = elim (cases_lt place home) [
@@ -148,7 +149,7 @@ spare_next old new place so_far own others home some high = elim (cases_lt place
   | inr before ↦ omega (arith, others home some (λ is. omega (arith, is, before)), so_far home some before)
 ]
 
--- so all have, once each of them has
+-- so all homes have little room, once each of them has
 pub spare_all : (homes : List HomeRecords) (place : ℕ) → length homes ≤ place → ((home : ℕ) → 1 ≤ home → home ≤ place → spare_at homes home ≤ 16) → (home : ℕ) → 1 ≤ home → spare_at homes home ≤ 16
 spare_all homes place all so_far home some = elim (cases_lt place home) [
   | inl past ↦ spare_past homes home (omega (arith, past, all))

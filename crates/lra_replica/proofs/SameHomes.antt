@@ -12,28 +12,28 @@ use Rattle.lra_replica.specs.Replicas.{AreHomesFrom, IsReplicaState, ReplicaStat
 use Rattle.lra_history.specs.Views.{View}
 use Rattle.lra_replica.proofs.Rooms.{home_numbered, records_of}
 
--- the first so many homes have the same records
+-- the first n homes have the same records
 abbrev pub AreSameTo : ℕ → List HomeRecords → List HomeRecords → Type 0
 AreSameTo n homes others = take n (records_in homes) ≡ take n (records_in others)
 
 record_here : (homes : List HomeRecords) (i : ℕ) (h : HomeRecords) → i < length homes → h ≡ get_or homes i h → get_or (records_in homes) i [] ≡ h.records
 record_here homes i h within is = records_of homes i h within ∙ ap (λ (x : HomeRecords). x.records) (sym is)
 
--- one home more
+-- one more home has the same records
 pub same_more : (homes others : List HomeRecords) (i : ℕ) (h k : HomeRecords) → i < length homes → i < length others → h ≡ get_or homes i h → k ≡ get_or others i k → h.records ≡ k.records → AreSameTo i homes others → AreSameTo (i + 1) homes others
 same_more homes others i h k within inside is was same so_far =
     take_more_same (records_in homes) (records_in others) i []
     (omega (arith, within, length-map homes (λ (h : HomeRecords). h.records))) (omega (arith, inside, length-map others (λ (h : HomeRecords). h.records))) so_far
     (record_here homes i h within is ∙ same ∙ sym (record_here others i k inside was))
 
--- all homes
+-- all homes have the same records
 pub same_all : (homes others : List HomeRecords) (i : ℕ) → length homes ≤ i → length others ≤ i → AreSameTo i homes others → records_in homes ≡ records_in others
 same_all homes others i all every so_far =
     sym (take_all i (records_in homes) (omega (arith, all, length-map homes (λ (h : HomeRecords). h.records))))
     ∙ so_far
     ∙ take_all i (records_in others) (omega (arith, every, length-map others (λ (h : HomeRecords). h.records)))
 
--- where all homes have the same records, each does
+-- if all homes have the same records, each of them has
 pub same_here : (homes others : List HomeRecords) (i : ℕ) (h k : HomeRecords) → i < length homes → i < length others → h ≡ get_or homes i h → k ≡ get_or others i k → AreHomesFrom 1 homes → AreHomesFrom 1 others → records_in homes ≡ records_in others → (h.home ≡ k.home) × (h.records ≡ k.records)
 same_here homes others i h k within inside is was numbered counted same = (
   ap (λ (x : HomeRecords). x.home) is ∙ home_numbered 1 homes i h within numbered ∙ sym (home_numbered 1 others i k inside counted) ∙ ap (λ (x : HomeRecords). x.home) (sym was),
@@ -87,7 +87,7 @@ copied_records [] (k ∷ ks) each = absurd each
 copied_records (h ∷ hs) [] each = absurd each
 copied_records (h ∷ hs) (k ∷ ks) each = ap (λ (rs : List Record). rs ∷ records_in ks) each.0.1 ∙ ap (λ (rest : List (List Record)). h.records ∷ rest) (copied_records hs ks each.1)
 
--- and are one for each node, in order, with the same index
+-- and there is one copy for each node, in order, with the same index
 pub copied_kept : (front purges : List ℕ) (homes copies : List HomeRecords) (index copy : HeldIndex) → AllZip IsCopy homes copies → copy.origins ≡ index.origins → IsReplicaState (record { front = front; purges = purges; homes = homes; index = index }) → IsReplicaState (record { front = front; purges = purges; homes = copies; index = copy })
 copied_kept front purges homes copies index copy each same is = record {
   purges = is.purges;

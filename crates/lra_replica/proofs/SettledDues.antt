@@ -1,4 +1,5 @@
--- what is due by the view of a settled set is all that the set has due, and participants and parents are those of the set
+-- what is due by the view of a settled set is exactly what the set has due, and participants and
+-- parents are those of the set
 use Rattle.std.proofs.Common.{◌≡◌, ◌≤◌, ◌∙◌, [], ℕ, List, refl, sym, ap, Bool, true, cond, Option, Some, None, length}
 use Rattle.std.specs.Option.{option_map_or}
 use Rattle.lra_id.specs.Ids.{Id, is_fact_number}
@@ -44,7 +45,7 @@ all_hearings S view me settled stands low high =
     let own = stands.records me low high in
     hearings_settled (length view.front) me S (records_at view.records me) settled.whole settled.seated (nested_settled S settled) (all_from IsNumbered S settled.numbered) own.order own.stands
 
--- of an LRA that the set holds
+-- the same for an LRA that the set holds
 pub same_participant : (S : List Fact) (view : View) (l : Id) (m : ℕ) → IsSettled S → StandsFor S view → 1 ≤ l.home → l.home ≤ length view.front → is_held S l ≡ true → participant_in view l m ≡ participant_of S l m
 same_participant S view l m settled stands low high held =
     let found = stands_at (length view.front) l.home S (records_at view.records l.home) l (stands.records l.home low high).stands refl held in

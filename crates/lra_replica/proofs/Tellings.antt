@@ -21,14 +21,14 @@ use Rattle.lra_replica.proofs.Rooms.{home_numbered}
 
 -- The homes of a replica, told
 
--- one home more
+-- one more home is told
 pub one_more_told : (a : View) (homes : List HomeRecords) (told more : List Told) (i : ℕ) (home : HomeRecords) (last : Told) → i < length homes → home ≡ get_or homes i home → more ≡ told ++ last ∷ [] → IsToldBy a home last → AllZip (IsToldBy a) (take i homes) told → AllZip (IsToldBy a) (take (i + 1) homes) more
 one_more_told a homes told more i home last within is items here so_far =
     let absorbed : take (i + 1) homes ≡ take i homes ++ home ∷ [] = take_more homes i home within ∙ ap (λ (h : HomeRecords). take i homes ++ h ∷ []) (sym is) in
     subst (λ (hs : List HomeRecords). AllZip (IsToldBy a) hs more) (sym absorbed)
     (subst (λ (ts : List Told). AllZip (IsToldBy a) (take i homes ++ home ∷ []) ts) (sym items) (all_zipped_more (IsToldBy a) (take i homes) told home last so_far here))
 
--- all homes
+-- all homes are told
 pub all_told : (a : View) (homes items : List HomeRecords) (told : List Told) (i : ℕ) → items ≡ homes → length items ≤ i → AllZip (IsToldBy a) (take i items) told → AllZip (IsToldBy a) homes told
 all_told a homes items told i is all so_far = subst (λ (hs : List HomeRecords). AllZip (IsToldBy a) hs told) (take_all i items all ∙ is) so_far
 
@@ -38,7 +38,7 @@ told_numbers a k [] (t ∷ told) each are = absurd each
 told_numbers a k (h ∷ homes) [] each are = absurd each
 told_numbers a k (h ∷ homes) (t ∷ told) each are = (each.0.0 ∙ are.0, told_numbers a (k + 1) homes told each.1 are.1)
 
--- what is told of all homes is of one for each node
+-- what is told of all homes has one part for each node
 pub telling_kept : (a : View) (kept : ReplicaState) (told : List Told) → AllZip (IsToldBy a) kept.homes told → IsReplicaState kept → IsTelling (record { front = kept.front; purges = kept.purges; homes = told })
 telling_kept a kept told each is = record {
   purges = is.purges;
@@ -61,7 +61,7 @@ told_at a (h ∷ homes) (t ∷ told) zero e each = record { home = h; part = t; 
 told_at a (h ∷ homes) (t ∷ told) (suc i) e each =
     let rest = told_at a homes told i (omega (arith, e)) each.1 in record { home = rest.home; part = rest.part; at = rest.at; told_at = rest.told_at; is = rest.is }
 
--- and it is what is news of the replica
+-- and what is told is what is news of the replica
 pub tells_news : (a : View) (kept : ReplicaState) (told : List Told) → AllZip (IsToldBy a) kept.homes told → IsReplicaState kept → TellsNews a (record { front = kept.front; purges = kept.purges; homes = told }) (view_of kept)
 tells_news a kept told each is = record {
   front = refl;

@@ -24,7 +24,7 @@ within c = omega (arith, c.requires.home, some c)
 is_home : (c : goal.After-index_mut) → c.index_mut.result.now ≡ get_or c.args.homes.now.items (c.args.added.home - 1) c.index_mut.result.now
 is_home c = c.index_mut.ensures.value ∙ ap (λ (i : ℕ). get_or c.args.homes.now.items i c.index_mut.result.now) (place_is c)
 
--- its records before
+-- the records of the home before
 before : (c : goal.After-index_mut) → c.index_mut.result.now.records ≡ records_at (records_in c.args.homes.now.items) c.args.added.home
 before c = ap (λ (h : HomeRecords). h.records) (is_home c) ∙ sym (records_of c.args.homes.now.items (c.args.added.home - 1) c.index_mut.result.now (within c))
 

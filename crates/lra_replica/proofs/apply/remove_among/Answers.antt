@@ -24,7 +24,7 @@ within c = omega (arith, place_is c, c.if-place-len.false, c.len.ensures, c.args
 is_home : (c : goal.After-homes-1) → c.index_mut.result.now ≡ get_or c.args.homes.now.items (c.args.id.home - 1) c.index_mut.result.now
 is_home c = c.index_mut.ensures.value ∙ ap (λ (i : ℕ). get_or c.args.homes.now.items i c.index_mut.result.now) (place_is c)
 
--- its records before
+-- the records of the home before
 before : (c : goal.After-homes-1) → c.index_mut.result.now.records ≡ records_at (records_in c.args.homes.now.items) c.args.id.home
 before c = ap (λ (h : HomeRecords). h.records) (is_home c) ∙ sym (records_of c.args.homes.now.items (c.args.id.home - 1) c.index_mut.result.now (within c))
 

@@ -19,11 +19,11 @@ made c =
     subst (λ (v : View). IsMerged (view_of c.args.self.now) (view_of c.args.other.now) v) (new_view c)
     (merged_from (view_of c.args.self.now) (view_of c.args.other.now) (patched c.in_ok-patch.patch (view_of c.args.self.now)) c.in_ok-taken.taken c.in_ok-taken.ensures c.in_ok-patch.ensures.absorbed)
 
--- the merge is one
+-- `merged` of the two views is a merge of them
 is_merge : (c : In_err-patch) → IsMerged (view_of c.args.self.now) (view_of c.args.other.now) (merged (view_of c.args.self.now) (view_of c.args.other.now))
 is_merge c = merge_is (view_of c.args.self.now) (view_of c.args.other.now) c.requires c.absorb.ensures.order c.in_ok-taken.ensures.order
 
--- and takes what the other tells
+-- and the merge takes what the other replica tells
 takes_told : (c : In_err-patch) → IsAbsorbed (view_of c.args.self.now) c.in_ok-taken.taken (merged (view_of c.args.self.now) (view_of c.args.other.now))
 takes_told c =
     absorbed_from (view_of c.args.self.now) (view_of c.args.other.now) (merged (view_of c.args.self.now) (view_of c.args.other.now)) c.in_ok-taken.taken c.in_ok-taken.ensures (is_merge c)

@@ -7,7 +7,7 @@ use Rattle.lra_replica.specs.Pages.{IsFirstBeyond, IsNext, IsNextAt}
 use Rattle.lra_replica.proofs.Paging.{first_of_all, kept_within, next_same, next_other}
 use Rattle.lra_replica.proofs.replica.Replica.next_after.Goals as goal
 
--- the next at the home and the number of an LRA
+-- the next LRA after the home and number of an LRA
 next_of : (t : Reading) (id : Id) (home num : ℕ) (o : Option Id) → home ≡ id.home → num ≡ id.num → IsNextAt t home num o → IsNextAt t id.home id.num o
 next_of t id home num o homes nums next = subst (λ (h : ℕ). IsNextAt t h id.num o) homes (subst (λ (n : ℕ). IsNextAt t home n o) nums next)
 

@@ -4,7 +4,7 @@ use Rattle.lra_replica.specs.Replicas.{view_of}
 use Rattle.lra_replica.proofs.Paging.{AreRows}
 use Rattle.lra_replica.proofs.replica.Replica.next_rows.Given as goal
 
--- as many rows as steps: those of all LRAs that are held up to the last
+-- there are as many rows as steps: those of all held LRAs up to the last one
 abbrev pub invariant-loop : goal.invariant-loop
 invariant-loop l = record {
   count : length l.rows.items ≡ l.counter;

@@ -5,7 +5,7 @@ use Rattle.lra_replica.specs.Replicas.{count_of_home, spare_at, view_of}
 use Rattle.lra_history.specs.Changes.{put_each}
 use Rattle.lra_replica.proofs.replica.Replica.put_all.Given as goal
 
--- what is left is put onto what was put
+-- putting what is left onto what was put gives the result
 abbrev pub invariant-loop-added : goal.invariant-loop-added
 invariant-loop-added l =
     (l.self.front ≡ l.fn.self.front)

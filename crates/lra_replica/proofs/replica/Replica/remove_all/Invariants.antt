@@ -3,7 +3,7 @@ use Rattle.lra_replica.specs.Replicas.{KeepsRoom, view_of}
 use Rattle.lra_history.specs.Changes.{remove_each}
 use Rattle.lra_replica.proofs.replica.Replica.remove_all.Given as goal
 
--- what is left is taken out of what is left after the others
+-- taking out what is left of what remains gives the result
 abbrev pub invariant-loop-id : goal.invariant-loop-id
 invariant-loop-id l =
     (l.self.front ≡ l.fn.self.front)
