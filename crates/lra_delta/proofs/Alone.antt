@@ -1,4 +1,4 @@
--- each record of a node of a lawful history has an encoding of its own
+-- each record of a node of a lawful history has an encoding by itself
 use Rattle.std.proofs.Common.{◌≡◌, ◌≤◌, ◌-◌, ℕ, zero, suc, List, Bool, true, false, refl, arith, length, replicate}
 use Rattle.std.specs.Prelude.{◌==◌, slice_index}
 use Rattle.std.proofs.lemmas.Bool.Decides.{nat_tests}
@@ -32,7 +32,7 @@ no_home home some = grind (arith, nat_tests)
 first_next : (home num : ℕ) → 1 ≤ home → is_next start home num ≡ true
 first_next home num some = rw (no_home home some) refl
 
--- so has what fits under a front
+-- so has each record that fits under a front
 pub is_record_under : (front : List ℕ) (kept : Record) → IsTypedRecord kept → KeepsRulesUnder front kept → IsRecordUnder front kept
 is_record_under front kept typed is =
     let follows : Follows (length front) start kept = (first_home (length front) kept.home is.some is.high, first_next kept.home kept.num is.some) in
@@ -43,7 +43,7 @@ zero_count zero i = refl
 zero_count (suc n) zero = refl
 zero_count (suc n) (suc i) = zero_count n i
 
--- and what a node of a lawful history keeps fits under its front
+-- and each record that a node of a lawful history keeps fits under its front
 pub fits_under : (h : History) (w : List ℕ) (view : View) (home : ℕ) (kept : Record) → IsLawful h → IsClosed h w → StandsFor (facts h w) view → length view.front ≤ 8
     → 1 ≤ home → home ≤ length view.front → In kept (records_at view.records home) → KeepsRulesUnder view.front kept
 fits_under h w view home kept law closed stands few low high m =

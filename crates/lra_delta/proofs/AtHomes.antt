@@ -18,7 +18,7 @@ use Rattle.lra_delta.proofs.HomeLists.{one_more_at_home}
 use Rattle.lra_delta.proofs.Ordered.{before, within_at}
 use Rattle.lra_delta.proofs.ToldLists.{as_many}
 
--- what is told of a home then
+-- what is told of a home once some records were put
 at_its_home : (n : ℕ) (ts : List Told) (done : List Record) (home : ℕ) → records_told ts ≡ by_home n done → 1 ≤ home → home ≤ n → records_at (records_told ts) home ≡ filter (λ (r : Record). r.home == home) done
 at_its_home n ts done home e some few =
     ap (λ (l : List (List Record)). records_at l home) e ∙ at_home (λ (k : ℕ). filter (λ (r : Record). r.home == k) done) [] n home some few
@@ -30,11 +30,11 @@ put_more n ts ts' done r e some few put =
     ∙ ap (λ (l : List (List Record)). slice_set l (r.home - 1) (filter (λ (q : Record). q.home == r.home) done ++ r ∷ [])) e
     ∙ sym (one_more_at_home n (r.home - 1) done r (omega (arith, some)))
 
--- its home is there
+-- the home of the next record exists
 pub home_of_next : (n : ℕ) (old ts : List Told) (done : List Record) (r : Record) → ArePut n old ts done → AreInOrder n start (done ++ r ∷ []) → r.home ≤ length ts
 home_of_next n old ts done r put order = omega (arith, (within_at n start done r [] order).1, as_many n ts done put.records)
 
--- those of its home have lower numbers
+-- the earlier records of its home have lower numbers
 pub last_of_home : (n : ℕ) (old ts : List Told) (done : List Record) (r : Record) → ArePut n old ts done → AreInOrder n start (done ++ r ∷ [])
     → AllByRecursion (λ (q : Record). q.num < r.num) (records_at (records_told ts) r.home)
 last_of_home n old ts done r put order =
@@ -50,7 +50,7 @@ put_next n old ts ts' done r put order told held records =
       records = put_more n ts ts' done r put.records within.0 within.1 records;
     }
 
--- a record is read against the live lists alone
+-- how a record is read depends only on the live lists
 pub reads_as_before : (old new : Seen) (result : Result Record Stop) (v : Version) (base front : List ℕ) (ts ts' : List Told) (last : Last) → lists ts' ≡ lists ts
     → Reads old new (λ (x : Record). x) result (read_record_at (told_context v base front ts') last) → Reads old new (λ (x : Record). x) result (read_record_at (told_context v base front ts) last)
 reads_as_before old new result v base front ts ts' last e read =

@@ -21,7 +21,7 @@ IsBytes-take n bytes h i =
       | inr le ↦ rw (get_or_past (take n bytes) i 0 (omega (arith, length-take n bytes))) (omega arith)
     ]
 
--- what a reader took from the start
+-- what a reader took, from its start
 pub record Takes (r : Rest) (text : List ℕ) (r' : Rest) : Type 0 where
   pub parts : r.ahead ≡ text ++ r'.ahead
   pub place : r'.place ≡ r.place + length text
@@ -36,7 +36,7 @@ Takes-then a x b y c p q = record {
   within = q.within;
 }
 
--- where the first of two parts ends
+-- the place where the first of two parts ends
 abbrev pub between : Rest → List ℕ → List ℕ → Rest → Rest
 between a x y c = record { place = a.place + length x; limit = a.limit; ahead = y ++ c.ahead }
 
@@ -56,17 +56,17 @@ Takes-second a x y c p = record {
   within = p.within;
 }
 
--- the input doesn't end before the frame has to
+-- the input reaches at least to the end of the frame
 abbrev pub IsThere : Rest → Type 0
 IsThere r = r.limit ≤ r.place + length r.ahead
 
--- the input's end wasn't met
+-- the reading did not meet the input's end
 abbrev pub Uncut : {A : Type 0} → Read A → Type 0
 Uncut (Ok x) = IsThere x.1
 Uncut (Err Short) = ⊥
 Uncut (Err (Broken place reach)) = Unit {0}
 
--- What is read keeps the rules and is encoded so; what is encoded so is read.
+-- What is read keeps the rules and has this encoding; and what has this encoding is read.
 pub record IsCode {A : Type 0} (scan : Rest → Read A) (encode : A → List ℕ) (Fits : A → Type 0) : Type 0 where
   pub takes : (r : Rest) → IsBytes r.ahead → r.place ≤ r.limit → (x : A) (r' : Rest) → scan r ≡ Ok (x, r') → Fits x × Takes r (encode x) r' × IsBytes r'.ahead
   pub again : (x : A) → Fits x → (r r' : Rest) → Takes r (encode x) r' → scan r ≡ Ok (x, r')
@@ -96,7 +96,7 @@ done x = Ok x
 pub ok_is : {A : Type 0} (x y : A) → done x ≡ done y → x ≡ y
 ok_is x y e = cc
 
--- one part, and then the others, which may name the rest before it
+-- one part is read, and then the others, which may name what was left before it
 pub step_from : {A X : Type 0} {scan : Rest → Read X} {encode : X → List ℕ} {FitsPart : X → Type 0} {Fits : A → Type 0} (k : Rest → X × Rest → Read A) {others : A → List ℕ}
     → IsCode scan encode FitsPart → (part : A → X) → ((a : A) → Fits a → FitsPart (part a))
     → ((x : X) → FitsPart x → (from : Rest) → IsCode (λ r. k from (x, r)) others (λ a. Fits a × (part a ≡ x)))
@@ -117,7 +117,7 @@ step_from {A} {X} {scan} {encode} {FitsPart} {Fits} k {others} code part fits in
       (inner x.0 t.0 r).uncut x.1 t.2 t.1.within here);
 }
 
--- one part, and then the others
+-- one part is read, and then the others
 pub step : {A X : Type 0} {scan : Rest → Read X} {encode : X → List ℕ} {FitsPart : X → Type 0} {Fits : A → Type 0} (k : X × Rest → Read A) {others : A → List ℕ}
     → IsCode scan encode FitsPart → (part : A → X) → ((a : A) → Fits a → FitsPart (part a))
     → ((x : X) → FitsPart x → IsCode (λ r. k (x, r)) others (λ a. Fits a × (part a ≡ x)))
@@ -133,7 +133,7 @@ rests r r' p l a =
 same_rest : (r r' : Rest) → Takes r [] r' → r ≡ r'
 same_rest r r' t = rests r r' (omega (arith, t.place)) (sym t.limit) t.parts
 
--- nothing more is read
+-- nothing more is to be read
 pub finish : {A : Type 0} {encode : A → List ℕ} {Fits : A → Type 0} → (a : A) → encode a ≡ [] → Fits a → ((b : A) → Fits b → b ≡ a) → IsCode (λ r. Ok (a, r)) encode Fits
 finish {A} {encode} {Fits} a empty fits only = record {
   takes = λ r bytes well b r' e.
@@ -226,7 +226,7 @@ wide64 = record {
   below = λ bytes fits. omega (arith, fits 0, fits 1, fits 2, fits 3, fits 4, fits 5, fits 6, fits 7);
 }
 
--- two tests passed
+-- both tests were passed, so the value is returned
 tests_ok : {A : Type 0} (b c : Bool) (d e : Halt) (x y : A) → cond b (Err d) (cond c (Err e) (Ok x)) ≡ Ok y → (b ≡ false) × (c ≡ false) × (x ≡ y)
 tests_ok true c d e x y h = absurd cc
 tests_ok false true d e x y h = absurd cc
@@ -240,7 +240,7 @@ pub rule_ok : {A : Type 0} (b : Bool) (e : Halt) (x y : A) → cond b (Ok x) (Er
 rule_ok true e x y h = (refl, cc)
 rule_ok false e x y h = absurd cc
 
--- a rule on what is read
+-- what is read must also keep a rule
 pub ruled : {A : Type 0} {scan : Rest → Read A} {encode : A → List ℕ} {Fits : A → Type 0} → IsCode scan encode Fits → (rule : A → Bool)
     → IsCode (λ r. scan r >>= λ x. cond (rule x.0) (Ok x) (Err (Broken r.place x.1.place))) encode (λ a. Fits a × (rule a ≡ true))
 ruled {A} {scan} {encode} {Fits} code rule = record {
@@ -255,7 +255,7 @@ ruled {A} {scan} {encode} {Fits} code rule = record {
   uncut = λ r bytes well there. uncut_bind (scan r) _ (code.uncut r bytes well there) (λ x e here. uncut_if (rule x.0) r.place x.1.place (Ok x) here);
 }
 
--- the last part, or the one part of a case
+-- the last part is read, or the one part of a case
 pub cased : {A X : Type 0} {scan : Rest → Read X} {part_encode : X → List ℕ} {FitsPart : X → Type 0} {encode : A → List ℕ} {Fits : A → Type 0}
     → IsCode scan part_encode FitsPart → (make : X → A) → ((x : X) → FitsPart x → encode (make x) ≡ part_encode x) → ((x : X) → FitsPart x → Fits (make x))
     → ((a : A) → Fits a → (x : X) × (a ≡ make x) × FitsPart x)
@@ -276,7 +276,7 @@ cased {A} {X} {scan} {part_encode} {FitsPart} {encode} {Fits} code make same fit
   uncut = λ r bytes well there. uncut_bind (scan r) _ (code.uncut r bytes well there) (λ x e here. here);
 }
 
--- the same rules in other words
+-- the same rules stated otherwise
 pub refit : {A : Type 0} {scan : Rest → Read A} {encode : A → List ℕ} {F G : A → Type 0} → IsCode scan encode F → ((a : A) → F a → G a) → ((a : A) → G a → F a) → IsCode scan encode G
 refit code to from = record {
   takes = λ r bytes well a r' e. let t = code.takes r bytes well a r' e in (to a t.0, t.1, t.2);
@@ -284,7 +284,7 @@ refit code to from = record {
   uncut = code.uncut;
 }
 
--- a fault at the field's first byte where it isn't whole
+-- a fault at the field's first byte, if the field is not whole
 pub guarded : {A : Type 0} {scan : Rest → Read A} {encode : A → List ℕ} {Fits : A → Type 0} (size : ℕ) → IsCode scan encode Fits → ((a : A) → Fits a → length (encode a) ≡ size)
     → IsCode (λ r. cond (ltb r.limit (r.place + size)) (Err (Broken r.place r.place)) (scan r)) encode Fits
 guarded {A} {scan} {encode} {Fits} size code is_size = record {
@@ -310,7 +310,8 @@ each_again item next encode Fits s' code n others (x ∷ xs) f r r' t =
     let two : each_at item next n (next s' x) (between r (encode x) (flat_map encode xs) r') ≡ Ok (xs, r') = (others (next s' x)).again xs (f.0.1, omega (arith, f.1)) _ r' (Takes-second r (encode x) (flat_map encode xs) r' text) in
     rw (one, two) refl
 
--- The list is empty exactly where none is wanted, so its first item is a part of it only beyond that: by hand.
+-- The list is empty exactly if none is wanted, so only otherwise is its first item a part of it:
+-- proved by hand.
 pub each_code : {S A : Type 0} {item : S → Rest → Read A} {next : S → A → S} {encode : A → List ℕ} {Fits : S → A → Type 0}
     → ((s : S) → IsCode (item s) encode (Fits s)) → (n : ℕ) (s : S) → IsCode (each_at item next n s) (flat_map encode) (λ xs. Along Fits next s xs × (length xs ≡ n))
 unfolding each_at
@@ -334,7 +335,7 @@ each_code {S} {A} {item} {next} {encode} {Fits} code (suc n) s = record {
 
 -- ---- texts
 
--- a rule whose fault is at a place before
+-- a rule whose fault is at an earlier place
 pub ruled_at : {A : Type 0} {scan : Rest → Read A} {encode : A → List ℕ} {Fits : A → Type 0} (first : ℕ) → IsCode scan encode Fits → (rule : A → Bool)
     → IsCode (λ r. scan r >>= λ x. cond (rule x.0) (Ok x) (Err (Broken first x.1.place))) encode (λ a. Fits a × (rule a ≡ true))
 ruled_at {A} {scan} {encode} {Fits} first code rule = record {

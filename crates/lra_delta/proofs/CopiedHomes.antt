@@ -1,4 +1,4 @@
--- Copies of what is told of each home: they tell the same.
+-- Copies of what is told of each home say the same.
 use Rattle.std.proofs.Common.{◌≡◌, ◌+◌, ◌∙◌, ℕ, List, [], ◌∷◌, refl, sym, ap, length, map}
 use Rattle.std.proofs.lemmas.List.{length-map}
 use Rattle.lra_forest.specs.declared.merging.Told.{Told}
@@ -24,7 +24,7 @@ through : {X : Type 0} (f : HomePart → X) (homes : List Told) → map (λ (tol
 through f [] = refl
 through f (x ∷ homes) = ap (λ xs. f (part_of x) ∷ xs) (through f homes)
 
--- what is made of each part is the same
+-- whatever is made of each part is the same for the copies
 each_same : {X : Type 0} (f : HomePart → X) (copies homes : List Told) → map part_of copies ≡ map part_of homes → map (λ (told : Told). f (part_of told)) copies ≡ map (λ (told : Told). f (part_of told)) homes
 each_same f copies homes same = through f copies ∙ ap (map f) same ∙ sym (through f homes)
 

@@ -1,4 +1,4 @@
--- what fits in a frame is encoded
+-- what fits in a frame has an encoding
 use Rattle.std.proofs.Common.{◌≡◌, ◌∙◌, ◌-◌, ◌≤◌, ◌<◌, ◌^◌, ◌&&◌, ◌==◌, ℕ, suc, List, [], ◌∷◌, Option, Some, None, Bool, true, false, cond, refl, ap, sym, arith, is_some, nat_le, nat_lt}
 use Rattle.std.specs.Prelude.{length, slice_index}
 use Rattle.std.specs.List.{AllByRecursion, list_any}
@@ -30,7 +30,7 @@ use Rattle.lra_delta.specs.Encoding.{flag_mark, outcome_mark}
 use Rattle.lra_delta.specs.Typed.{AreLinks, HasLinks}
 use Rattle.lra_delta.specs.Rules.{Context, IsLink, IsMember, IsParent, IsParticipant, IsRecord, at_most, is_among, is_given_length, is_mark_for, is_next, is_nested, is_outcome_for, next_nested}
 
--- a text that is kept of a link is a link's
+-- a text that is kept of a link is that of a link
 
 empty_is_none : is_kept [] ≡ false
 unfolding is_kept is_utf8 chars parse_url split_scheme scheme_len split_once strip_tabs_and_new_lines trim_c0_control_and_space
@@ -156,7 +156,7 @@ record_fits k last r nodes small f follows deadline kept known =
       members = members_fit k.version (home_stamp r) r.num r.members stamp f.rising f.nested f.linked kept known;
     }
 
--- version 2 knows all
+-- version 2 knows every member
 pub knows_all : (ms : List Member) → AllByRecursion (Knows Two) ms
 knows_all [] = tt
 knows_all (Nested num ∷ ms) = (tt, knows_all ms)

@@ -20,7 +20,7 @@ is_found bytes (Err e) fits given = tt
 pub is_only : (bytes : List ℕ) (r : Result Frame Refusal) → Decodes r (frame_in bytes) → (v : Version) (d : Frame) → IsDeltaAs v d → bytes ≡ encoding_as v d → Decodes r (Ok d)
 is_only bytes r given v d f e = subst (Decodes r) (ap frame_in e ∙ frame_again v d f) given
 
--- the same of one record
+-- the same for one record
 
 pub is_found_alone : (v : Version) (front bytes : List ℕ) (r : Result Record Refusal) → IsBytes bytes → Decodes r (record_in_as v front bytes) → IfOk r (λ kept. IsRecordUnderAs v front kept × (bytes ≡ record_text_as v kept))
 is_found_alone v front bytes (Ok kept) fits given = record_takes v front bytes kept fits given

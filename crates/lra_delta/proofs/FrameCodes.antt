@@ -81,7 +81,7 @@ frame_is d n a b c l en ea eb ec el er =
     ap (λ (x : List (List Record)). record { base = d.base; front = d.front; purges = d.purges; live = d.live; records = x }) (er ∙ ap (λ (x : ℕ). by_home x (flat d.records)) en) in
     one ∙ rw (← ea, ← eb, ← ec, ← el) refl
 
--- what isn't asked of a vector: that its numbers fit, which its limits give
+-- what the rules of a vector need not ask: its numbers fit because their limits give that
 both : (a b : Bool) → (a && b) ≡ true → (a ≡ true) × (b ≡ true)
 both true b e = (refl, e)
 both false b e = absurd cc
@@ -202,7 +202,7 @@ version_again : (v : Version) → version_of (version_mark v) ≡ v
 version_again One = refl
 version_again Two = refl
 
--- a version with a frame
+-- a frame with the version of its encoding
 abbrev pub IsVersioned : Version × Frame → Type 0
 IsVersioned x = IsDeltaAs x.0 x.1
 
@@ -232,7 +232,7 @@ value_ok (Ok y) x e = (y, refl, cc)
 value_ok (Err Short) x e = absurd cc
 value_ok (Err (Broken place reach)) x e = absurd cc
 
--- one item, and then the end
+-- one item is read, and then the input must end
 abbrev pub ending : {A : Type 0} → (Rest → Read A) → Rest → Read A
 ending scan r = scan r >>= λ x. cond (x.1.place == r.limit) (Ok x) (Err (Broken x.1.place x.1.place))
 
@@ -260,7 +260,7 @@ whole_again {A} {scan} {encode} {Fits} code a f =
     let one : scan r ≡ Ok (a, r') = code.again a f r r' (record { parts = sym (append-nil (encode a)); place = omega arith; limit = refl; within = omega arith }) in
     rw (one, same_place (length (encode a))) refl
 
--- the frame alone
+-- the frame is read without its version
 dropped : (m : Read (Version × Frame)) (d : Frame) → told_of (value_of (m >>= λ x. Ok (x.0.1, x.1))) ≡ Ok d → (v : Version) × (told_of (value_of m) ≡ Ok (v, d))
 dropped (Ok y) d e = let same : y.0.1 ≡ d = cc in (y.0.0, ap (λ (x : Frame). Ok (y.0.0, x)) same)
 dropped (Err Short) d e = absurd cc
@@ -291,7 +291,7 @@ pub record_again : (v : Version) (front : List ℕ) (kept : Record) → IsRecord
 unfolding alone_at
 record_again v front kept f = whole_again (record_code (under v front) start) kept f
 
--- no encoding begins another
+-- no encoding is the beginning of another
 pub one_of : {A : Type 0} {scan : Rest → Read A} {encode : A → List ℕ} {Fits : A → Type 0} → IsCode scan encode Fits → (a b : A) (x y : List ℕ) → Fits a → Fits b → encode a ++ x ≡ encode b ++ y → (a ≡ b) × (x ≡ y)
 one_of {A} {scan} {encode} {Fits} code a b x y fa fb e =
     let top : ℕ = length (encode a) + length (encode b) in

@@ -1,4 +1,4 @@
--- the worked frames compute
+-- the worked frames, computed
 use Rattle.std.proofs.Common.{◌≡◌, ℕ, List, [], ◌∷◌, ◌++◌, take, drop, Some, None, Ok, Err, refl}
 use Rattle.std.specs.Prelude.{slice_set}
 use Rattle.lra_id.specs.declared.outcome.Verdict.TheVariants.{Close}
@@ -43,7 +43,7 @@ cut : fails (take 0 bytes) 0 × fails (take 3 bytes) 0 × fails (take 4 bytes) 4
 unfolding each_at many_at vector_at place_at parent_by parent_at decision_at text_at link_at participant_at member_by member_at members_at read_record_at read_records_at live_list_at live_by read_live_at body_at ended_at framed_at versioned_at frame_at
 cut = (refl, refl, refl, refl, refl, refl, refl, refl, refl, refl, refl, refl, refl, refl, refl, refl, refl, refl)
 
--- one field changed
+-- frames with one field changed
 changed : fails (slice_set bytes 36 3) 65 × fails (slice_set bytes 8 0x37) 64 × fails (slice_set bytes 8 0x39) 65 × fails (slice_set bytes 9 0) 9 × fails (slice_set bytes 34 1) 34
     × fails (slice_set bytes 55 3) 55 × fails (slice_set bytes 63 0) 56
     × fails (slice_set bytes 3 0x45) 0 × fails (slice_set bytes 4 3) 4 × fails (slice_set bytes 4 0) 4 × fails (slice_set (slice_set (slice_set (slice_set bytes 5 3) 6 255) 7 255) 8 0xf8) 5 × fails (slice_set bytes 17 3) 18 × fails (slice_set bytes 33 3) 26 × fails (slice_set bytes 33 1) 34
@@ -51,12 +51,12 @@ changed : fails (slice_set bytes 36 3) 65 × fails (slice_set bytes 8 0x37) 64 �
 unfolding each_at many_at vector_at place_at parent_by parent_at decision_at text_at link_at participant_at member_by member_at members_at read_record_at read_records_at live_list_at live_by read_live_at body_at ended_at framed_at versioned_at frame_at
 changed = (refl, refl, refl, refl, refl, refl, refl, refl, refl, refl, refl, refl, refl, refl, refl, refl, refl, refl, refl, refl, refl)
 
--- the record twice, count 2, length 84: its second number
+-- the record stands twice, with count 2 and length 84: the fault is at its second number
 twice : fails (slice_set (slice_set bytes 36 2) 8 84 ++ drop 37 bytes) 66
 unfolding each_at many_at vector_at place_at parent_by parent_at decision_at text_at link_at participant_at member_by member_at members_at read_record_at read_records_at live_list_at live_by read_live_at body_at ended_at framed_at versioned_at frame_at
 twice = refl
 
--- the same replica since base 2
+-- the frame of the same replica since base 2
 abbrev second : Frame
 second = record { base = 2 ∷ []; front = 2 ∷ []; purges = 0 ∷ []; live = None ∷ []; records = [] ∷ [] }
 
@@ -64,12 +64,13 @@ second_encoded : encoding_as One second ≡ 0x4c ∷ 0x52 ∷ 0x41 ∷ 0x44 ∷ 
 unfolding place parent counted participant member members record_text_as live_list live records body
 second_encoded = refl
 
--- over a stream: cut before byte 65 it is Cut, and with byte 55 set to 3 the fault comes first
+-- over a stream: if it is cut before byte 65, the answer is Cut; if byte 55 is set to 3, the fault
+-- comes first
 stream : (frame_at (record { place = 0; limit = 65; ahead = take 60 bytes }) ≡ Err Short) × (frame_at (record { place = 0; limit = 65; ahead = take 60 (slice_set bytes 55 3) }) ≡ Err (Broken 55 56))
 unfolding each_at many_at vector_at place_at parent_by parent_at decision_at text_at link_at participant_at member_by member_at members_at read_record_at read_records_at live_list_at live_by read_live_at body_at ended_at framed_at versioned_at frame_at
 stream = (refl, refl)
 
--- of version 2 it differs in byte 4 alone, as it has no participant
+-- the encoding of version 2 differs in byte 4 alone, as the frame has no participant
 encoded_two : encoding first ≡ slice_set bytes 4 2
 unfolding place parent counted participant member members record_text_as live_list live records body
 encoded_two = refl

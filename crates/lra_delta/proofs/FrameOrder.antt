@@ -1,4 +1,4 @@
--- records of one home after another in the order of a frame, and each home's again
+-- records of one home after another in the order of a frame, and the list of each home again
 use Rattle.std.proofs.Common.{◌≡◌, ◌≤◌, ◌<◌, ◌+◌, ◌-◌, ◌*◌, ◌^◌, ℕ, zero, suc, List, [], ◌∷◌, ◌++◌, Bool, true, false, cond, refl, sym, ap, subst, ◌∙◌, arith, inl, inr, filter, get_or, length, map}
 use Rattle.std.specs.Prelude.{◌==◌, ◌&&◌, ◌⊎◌, nat_lt}
 use Rattle.std.specs.List.{AllByRecursion}
@@ -30,13 +30,13 @@ pub record MeetsSettled (k : Context) (r : Record) : Type 0 where
   pub typed : IsTypedRecord r
   pub known : AllByRecursion (Knows k.version) r.members
 
--- at most 256 records of the home, in order, which fit
+-- at most 256 records of the home, in order, each of which fits
 pub record AreFit (k : Context) (home : ℕ) (rs : List Record) : Type 0 where
   pub own : AreOf home rs
   pub few : length rs ≤ 256
   pub each : AllByRecursion (MeetsSettled k) rs
 
--- so it is of the homes after this one
+-- the records of the homes after `low` are such lists
 abbrev pub AreHomes : Context → ℕ → List (List Record) → Type 0
 AreHomes k low [] = Unit {0}
 AreHomes k low (rs ∷ homes) = AreFit k (low + 1) rs × AreHomes k (low + 1) homes
@@ -102,7 +102,7 @@ homes_along k low last (rs ∷ homes) nodes small before high are =
     (records_along k (low + 1) last rs nodes small (omega arith) (omega (arith, high)) are.0.own.homes are.0.own.ascending are.0.few are.0.each (inl (omega (arith, before))))
     (homes_along k (low + 1) (last_of last rs) homes nodes small (last_home (low + 1) last rs are.0.own.homes (omega (arith, before))) (omega (arith, high)) are.1)
 
--- ---- each home's again
+-- ---- the list of each home again
 
 itself : (a : ℕ) → (a == a) ≡ true
 itself a = grind (arith, nat_tests)
@@ -179,7 +179,7 @@ pub flat_few : (k : Context) (low : ℕ) (homes : List (List Record)) → AreHom
 flat_few k low [] are = omega arith
 flat_few k low (rs ∷ homes) are = omega (arith, length-append rs (flat homes), are.0.few, flat_few k (low + 1) homes are.1)
 
--- ---- from what is known of each home
+-- ---- from what is known of the records of each home
 
 pub are_homes : (k : Context) (low : ℕ) (homes : List (List Record)) → ((home : ℕ) → low < home → home ≤ low + length homes → AreFit k home (get_or homes (home - 1 - low) [])) → AreHomes k low homes
 are_homes k low [] f = tt

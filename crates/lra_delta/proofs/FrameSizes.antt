@@ -18,11 +18,11 @@ use Rattle.lra_delta.specs.Frames.{Frame, live_at}
 use Rattle.lra_delta.specs.Grammar.{KeepsRulesIn, IsOfGrammar}
 use Rattle.lra_delta.specs.FrameSizes.{HasShortLinks, IsShort, after_size, frame_size, link_size, live_size, marks_size, member_size, place_size, record_size}
 
--- a sum of so many numbers, none of which is greater than this
+-- a sum of numbers, none of which is greater than `most`, is at most their count times `most`
 sum_most : {X : Type 0} (f : X → ℕ) (most : ℕ) (xs : List X) → ((x : X) → In x xs → f x ≤ most) → sum_by f xs ≤ length xs * most
 sum_most f most xs each = sum_by-le f most xs (All-from_recursion (λ x. f x ≤ most) xs (all_from (λ x. f x ≤ most) xs each))
 
--- an element of a list of what each home has, at its home
+-- an element of a list of what each home has stands at some home
 at_its_home : {X : Type 0} (xs : List X) (d x : X) → In x xs → (home : ℕ) × (1 ≤ home) × (home ≤ length xs) × (get_or xs (home - 1) d ≡ x)
 at_its_home xs d x m =
     let i = in_get xs x m in
@@ -64,7 +64,7 @@ live_most : (o : Option (List ℕ)) → ((nums : List ℕ) → o ≡ Some nums �
 live_most None each = omega arith
 live_most (Some nums) each = omega (arith, each nums refl)
 
--- the whole
+-- the whole frame
 pub frame_most : (v : Version) (frame : Frame) → IsOfGrammar frame → length frame.front ≤ 8 → IsShort frame → frame_size v frame ≤ 67108855
 frame_most v frame is few short =
     let lives = sum_most live_size 2051 frame.live (λ o m.

@@ -39,7 +39,7 @@ pub no_fact_lacks : (h : History) (v w base : List ℕ) (l : Id) (f : Fact) → 
 no_fact_lacks h v w base l f law cv cw below e m about =
     facts_known (facts h v) (facts h w) (facts h (join_fronts v w)) v w base (together h law v w v w cv cw (closed_counted h v cv) (closed_counted h w cw)) below l e f m about
 
--- a view that takes a frame of a base that its front counts stands for the union
+-- a view that takes a frame of a base that its own front counts stands for the union
 pub take_law : (h : History) (v w base : List ℕ) (a c : View) (frame : Frame) → IsLawful h → IsClosed h v → IsClosed h w → StandsFor (facts h v) a → IsFrame (facts h w) base frame
     → IsBelow base a.front → IsTaken a frame c → StandsFor (facts h (join_fronts v w)) c
 take_law h v w base a c frame law cv cw sa is below m =
@@ -54,7 +54,7 @@ merge_takes h v w base a b law cv cw sa sb nodes below =
     stands_taken (facts h v) (facts h w) (facts h (join_fronts v w)) a (frame_of b base) base (together h law v w a.front b.front cv cw sa.front sb.front) sa is nodes below (merged a b)
     (length_join a.front b.front nodes) (merge_law h v w a b (merged a b) law cv cw sa sb m)
 
--- A view that takes a frame of a base that its front counts, and has the shape
+-- A view exists that takes a frame of a base that its front counts, and it has the shape
 pub some_view : (h : History) (v w base : List ℕ) (a : View) (frame : Frame) → IsLawful h → IsClosed h v → IsClosed h w → StandsFor (facts h v) a → IsFrame (facts h w) base frame
     → length a.front ≡ length frame.front → IsBelow base a.front → (c : View) × IsTaken a frame c × HasShape c
 some_view h v w base a frame law cv cw sa is nodes below =
@@ -68,8 +68,8 @@ some_view h v w base a frame law cv cw sa is nodes below =
       closed_shape h (join_fronts v w) (view_made U front) law (closed_join h v w cv cw) stands,
     )
 
--- What comes of preparing a frame that a node of the history sent: a patch with which the view stands for the union, or memory is
--- wanting
+-- The result of preparing a frame that a node of the history sent: a patch with which the view
+-- stands for the union, or an answer that memory ran out
 pub patched_union : (h : History) (v w : List ℕ) (a : View) (frame : Frame) (telling : Telling) (result : Result Change Refusal) → IsLawful h → IsClosed h v → IsClosed h w
     → StandsFor (facts h v) a → IsFrame (facts h w) frame.base frame → length frame.front ≡ length a.front → IsBelow frame.base a.front → IsToldBy frame telling
     → IfOk result (λ patch. IsAbsorbed a telling (patched patch a))

@@ -39,7 +39,7 @@ own_is home r e = grind (arith, nat_tests)
 other_is : (home : ℕ) (r q : Record) → r.num < q.num → is_of (record { home = home; num = q.num }) r ≡ false
 other_is home r q e = grind (arith, nat_tests)
 
--- a record is found by its number
+-- a record of a home is found by its number
 found_own : (home : ℕ) (rs : List Record) (r : Record) → AllByRecursion (λ (q : Record). q.home ≡ home) rs → IsAscending rs → In r rs → find (is_of (record { home = home; num = r.num })) rs ≡ Some r
 found_own home [] r own up m = absurd m
 found_own home (q ∷ rs) r own up (inl e) = let here = own_is home r (ap (λ (x : Record). x.home) e ∙ own.0) in subst (λ (x : Record). find (is_of (record { home = home; num = r.num })) (x ∷ rs) ≡ Some r) e (rw here refl)
@@ -81,7 +81,7 @@ module _ (S : List Fact) (view : View) (base : List ℕ) (settled : IsSettled S)
   abbrev nodes : ℕ
   nodes = length view.front
 
-  -- a record of the view
+  -- a record of the view is found at its home
   found_at_home : (home : ℕ) (r : Record) → 1 ≤ home → home ≤ length view.front → In r (records_at view.records home) → record_at view (record { home = home; num = r.num }) ≡ Some r
   found_at_home home r low high m =
       let order = (stands.records home low high).order in
@@ -90,13 +90,13 @@ module _ (S : List Fact) (view : View) (base : List ℕ) (settled : IsSettled S)
   record_of_view : (home : ℕ) (r : Record) → 1 ≤ home → home ≤ length view.front → In r (records_at view.records home) → FoundRecord S view (record { home = home; num = r.num }) r
   record_of_view home r low high m = found_record S view (record { home = home; num = r.num }) r stands low (found_at_home home r low high m)
 
-  -- its number is one that the front counts
+  -- the front counts its number
   number_of_view : (home : ℕ) (r : Record) → 1 ≤ home → home ≤ length view.front → In r (records_at view.records home) → (1 ≤ r.num) × (r.num ≤ count view.front home)
   number_of_view home r low high m =
       let found = record_of_view home r low high m in
       begun_covered S view.front (record { home = home; num = r.num }) stands.front (held_begun S (record { home = home; num = r.num }) found.held)
 
-  -- the numbers that are told of a home
+  -- the live list that is told of a home
   live_told : (home : ℕ) (nums : List ℕ) → 1 ≤ home → home ≤ length view.front → live_at (frame_of view base).live home ≡ Some nums → map (λ (r : Record). r.num) (records_at view.records home) ≡ nums
   live_told home nums low high e =
       only_if (nat_lt (count base home) (count view.purges home)) (map (λ (r : Record). r.num) (records_at view.records home)) nums
@@ -115,7 +115,7 @@ module _ (S : List Fact) (view : View) (base : List ℕ) (settled : IsSettled S)
             (omega (arith, bounds.0, r.2), omega (arith, bounds.1, r.2)));
       })
 
-  -- the stamp of its home counts its begin
+  -- the home's stamp counts the begin of the LRA
   pub own_counted : (home : ℕ) (r : Record) → 1 ≤ home → home ≤ length view.front → In r (records_at view.records home) → 1 ≤ home_stamp r
   own_counted home r low high m =
       let l : Id = record { home = home; num = r.num } in
@@ -175,7 +175,7 @@ module _ (S : List Fact) (view : View) (base : List ℕ) (settled : IsSettled S)
             record_fits home r low high there.0 there.1;
       }
 
--- so do the frames of the views of closed sets
+-- so do the frames of the views of closed sets of a lawful history
 pub grammar_law : (h : History) (w base : List ℕ) (view : View) → IsLawful h → IsClosed h w → StandsFor (facts h w) view → length base ≡ length view.front → IsBelow base view.front → IsOfGrammar (frame_of view base)
 grammar_law h w base view law closed stands bases below =
     frame_well (facts h w) view base (closed_settled h law w closed) (closed_proper h law w closed) (closed_shape h w view law closed stands) stands bases below

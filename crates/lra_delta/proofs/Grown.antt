@@ -1,4 +1,4 @@
--- taking bytes of an input, and what is left of the whole then
+-- taking bytes of an input, and what is left of the whole afterwards
 use Rattle.std.proofs.Common.{◌≡◌, ℕ, ◌+◌, ◌≤◌, ◌<◌, true, false, ltb, List, ◌++◌, length, take, drop, Ok, Err, refl, ap, ◌∙◌, append_assoc, arith}
 use Rattle.std.proofs.lemmas.Bool.{le-ltb, lt-ltb}
 use Rattle.std.proofs.lemmas.List.{take_at, drop_at, length-append}
@@ -12,7 +12,7 @@ pub begins_before : (taken got whole : List ℕ) → Begins (taken ++ got) whole
 unfolding Begins
 begins_before taken got whole f = (got ++ f.0, f.1 ∙ append_assoc taken got f.0)
 
--- so many bytes were got, all within the frame
+-- this many bytes were got, all within the frame
 pub taking : (taken got whole : List ℕ) (first limit width : ℕ) → length got ≡ width → length taken + width ≤ limit → Begins (taken ++ got) whole
     → cells_at first width (record { place = length taken; limit = limit; ahead = drop (length taken) whole }) ≡ Ok (got, record { place = length (taken ++ got); limit = limit; ahead = drop (length (taken ++ got)) whole })
 unfolding Begins
@@ -42,7 +42,7 @@ filled old new got first width start limit text len fits whole f =
     let g : Begins (old.taken ++ got) whole = rw text at f in
     (begins_before old.taken got whole g, rw (text, limit) (taking old.taken got whole first old.limit width len fits g))
 
--- no more came than a part of a field
+-- only a part of a field came
 pub cut_short : (old new : Seen) (got : List ℕ) (first width : ℕ) (e : Stop) → IsEnd e → new.taken ≡ old.taken ++ got → length got < width → length old.taken + width ≤ old.limit
     → (whole : List ℕ) → MayBe e new whole → Begins old.taken whole × Stops (length new.taken) e (cells_at first width (rest_in whole old))
 cut_short old new got first width (Fault place) end text short fits whole f = absurd end

@@ -1,4 +1,4 @@
--- what keeps the rules of frames, and has the types of a delta, has an encoding
+-- a frame that keeps the rules, and has the types of a delta, has an encoding
 use Rattle.std.proofs.Common.{Bool, false, inl, inr, zero, ◌≡◌, ◌≤◌, ◌<◌, ◌+◌, ◌-◌, ◌*◌, ◌^◌, ℕ, suc, List, [], ◌∷◌, true, Option, Some, None, refl, sym, ap, subst, ◌∙◌, arith, get_or, length, is_some}
 use Rattle.std.specs.Prelude.{IfSome, nat_le, nat_lt, slice_index}
 use Rattle.std.specs.List.{All, AllByRecursion, list_any}
@@ -165,11 +165,11 @@ is_delta_of v d typed is known =
       short = le_true (length (body v d)) 67108855 (omega (arith, length_body v d, frame_most v d is typed.few (is_short d typed.records)));
     }
 
--- so each has an encoding of version 2
+-- so each such frame has an encoding of version 2
 pub is_delta : (d : Frame) → IsTyped d → IsOfGrammar d → IsDelta d
 is_delta d typed is = is_delta_of Two d typed is (λ home r m. knows_all r.members)
 
--- and one of version 1 where no record has a link for the end
+-- and one of version 1, if no record has a link for the end
 
 none_first : {X : Type 0} (p : X → Bool) (xs : List X) (x : X) → list_any p xs ≡ false → In x xs → p x ≡ false
 none_first p xs x none m = by (p x) refl

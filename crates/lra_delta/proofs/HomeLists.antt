@@ -1,4 +1,4 @@
--- records in order of their homes, one list and one list for each home
+-- records in order of their homes, as one list and as one list for each home
 use Rattle.std.proofs.Common.{◌≡◌, ◌≤◌, ◌<◌, ℕ, zero, suc, List, [], ◌∷◌, ◌++◌, refl, sym, ap, ◌∙◌, Bool, true, false, cond, arith, inl, inr, length, filter, map, nat_le}
 use Rattle.std.specs.Prelude.{◌==◌, slice_set}
 use Rattle.std.proofs.lemmas.Bool.{eqb-true, cases_lt}
@@ -14,7 +14,7 @@ use Rattle.lra_delta.specs.FrameFields.{Along}
 use Rattle.lra_delta.specs.Encoding.{flat}
 use Rattle.lra_delta.specs.Rules.{Context, IsRecord, after, by_home, is_home}
 
--- no home comes before an earlier one
+-- no record's home comes before that of an earlier record
 abbrev pub Rises : ℕ → List Record → Type 0
 Rises low [] = Unit {0}
 Rises low (r ∷ rs) = (low ≤ r.home) × Rises r.home rs
@@ -43,7 +43,7 @@ later_home a n lt = grind (arith, nat_tests)
 own_home : (a : ℕ) → (a == a) ≡ true
 own_home a = grind (arith, nat_tests)
 
--- none below the first
+-- no record is below the first home
 none_low : (most low : ℕ) (rs : List Record) → most < low → Rises low rs → up_to most rs ≡ []
 none_low most low [] lt up = refl
 none_low most low (r ∷ rs) lt up = rw (high_home r.home most (omega (arith, up.0))) (none_low most r.home rs (omega (arith, up.0)) up.1)
@@ -95,7 +95,7 @@ from_one : (nodes : ℕ) (rs : List Record) (low : ℕ) → AreWithin nodes rs �
 from_one nodes [] low all up = tt
 from_one nodes (r ∷ rs) low all up = (all.0.0, up.1)
 
--- parted by home, and put together again
+-- records split by home and put together again are as before
 pub flat_by_home : (k : Context) (last : Last) (rs : List Record) → Along (IsRecord k) after last rs → flat (by_home (length k.front) rs) ≡ rs
 flat_by_home k last rs f =
     let all = along_within k last rs f in
@@ -112,7 +112,7 @@ set_last [] a b v (suc i) here there = ap (λ c. c ∷ []) (sym (there (λ e. ab
 set_last (x ∷ xs) a b v zero here there = ap (λ c. v ∷ (xs ++ c ∷ [])) (sym (there (λ e. absurd (omega arith))))
 set_last (x ∷ xs) a b v (suc i) here there = ap (λ r. x ∷ r) (set_last xs a b v i (λ e. here (ap suc e)) (λ n. there (λ e. n (omega (arith, e)))))
 
--- what is given to one of the homes changes
+-- if what one home is given changes, the list changes at its place
 set_at_home : {X : Type 0} (g h : ℕ → X) (i : ℕ) (v : X) (n : ℕ) → h (suc i) ≡ v → ((k : ℕ) → (k ≡ suc i → ⊥) → h k ≡ g k) → map h (nodes_to n) ≡ slice_set (map g (nodes_to n)) i v
 set_at_home g h i v zero e others = refl
 set_at_home g h i v (suc n) e others =

@@ -29,7 +29,7 @@ beyond_is base v false is = by (is_beyond base v) refl
     by true e = refl
     by false e = absurd (let clash = is.1 (below_from base v e) in cc)
 
--- the next one is added if it passes
+-- the next record is added if it passes
 pub next_passing : (p : Record → Bool) (since left rest new all : List Record) (r : Record) → left ≡ r ∷ rest → since ++ filter p left ≡ all → new ≡ cond (p r) (since ++ r ∷ []) since → new ++ filter p rest ≡ all
 next_passing p since left rest new all r steps so_far added =
     ap (λ (qs : List Record). qs ++ filter p rest) added ∙ by (p r) ∙ ap (λ (qs : List Record). since ++ filter p qs) (sym steps) ∙ so_far
@@ -46,7 +46,7 @@ lesser : (xs ys : List Record) (r : Record) → IsAscending (xs ++ r ∷ ys) →
 lesser [] ys r up = tt
 lesser (x ∷ xs) ys r up = (behind xs ys r x.num up.0, lesser xs ys r up.1)
 
--- those that passed before one that passes have lesser numbers
+-- the records that passed before one that passes have lesser numbers than it
 pub passed_before : (p : Record → Bool) (home : ℕ) (rs since left rest : List Record) (r : Record) → AreOf home rs → left ≡ r ∷ rest → since ++ filter p left ≡ filter p rs → p r ≡ true → AllByRecursion (λ (q : Record). q.num < r.num) since
 passed_before p home rs since left rest r are steps so_far pass =
     let here : filter p left ≡ r ∷ filter p rest = ap (filter p) steps ∙ ap (λ (b : Bool). cond b (r ∷ filter p rest) (filter p rest)) pass in
@@ -65,7 +65,7 @@ get_map f (x ∷ xs) (suc i) d e within = get_map f xs i d e (omega (arith, with
 
 -- The frame
 
--- of each home of a replica what is made of it, in order
+-- what is made of each home of a replica, in order
 homes_of : {X : Type 0} (g : ℕ → List Record → X) (kept : ReplicaState) → IsReplicaState kept → map (λ (h : HomeRecords). g h.home h.records) kept.homes ≡ map (λ home. g home (records_at (view_of kept).records home)) (nodes_to (length kept.front))
 homes_of {X} g kept is =
     same_lists (map of_home kept.homes) (map at_home (nodes_to (length kept.front)))
@@ -110,7 +110,7 @@ told_from base purges k (t ∷ told) (h ∷ homes) e are =
     let rest : map part_of told ≡ map (part_since base purges) homes = cc in
     (ap (λ (p : HomePart). p.home) first ∙ are.0, told_from base purges (k + 1) told homes rest are.1)
 
--- and it is told of one home for each node
+-- and what is told has one part for each node
 pub parts_telling : (kept : ReplicaState) (base : List ℕ) (told : List Told) → IsReplicaState kept → map part_of told ≡ map (part_since base kept.purges) kept.homes
     → IsTelling (record { front = kept.front; purges = kept.purges; homes = told })
 parts_telling kept base told is parts = record {

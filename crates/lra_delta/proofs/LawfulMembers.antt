@@ -40,7 +40,7 @@ use Rattle.lra_delta.specs.Grammar.{IsLinked, IsPlaced, nested_numbers}
 
 -- Nested LRAs
 
--- what is so of each that is nested
+-- a property of each nested number
 nested_all : (P : ℕ → Type 0) (k : Fact → Member) (gs : List Fact) → ((f : Fact) → In f gs → (n : ℕ) → k f ≡ Nested n → P n) → AllByRecursion P (nested_numbers (map k gs))
 nested_all P k [] each = tt
 nested_all P k (f ∷ gs) each = by (k f) refl (nested_all P k gs (λ g m. each g (inr m)))
@@ -50,7 +50,7 @@ nested_all P k (f ∷ gs) each = by (k f) refl (nested_all P k gs (λ g m. each 
     by (Participant p) e rest = rest
     by Left e rest = rest
 
--- in order, where each is numbered by its fact
+-- the nested numbers are in order, if each member is numbered by its fact
 nested_rising : (k : Fact → Member) (gs : List Fact) → Ascend gs → ((f : Fact) → In f gs → (n : ℕ) → k f ≡ Nested n → n ≡ f.num) → IsRising (nested_numbers (map k gs))
 nested_rising k [] up each = tt
 nested_rising k (f ∷ gs) up each = by (k f) refl (nested_rising k gs up.1 (λ g m. each g (inr m)))
@@ -64,7 +64,7 @@ nested_rising k (f ∷ gs) up each = by (k f) refl (nested_rising k gs up.1 (λ 
     by (Participant p) e rest = rest
     by Left e rest = rest
 
--- a nested LRA's number is that of the fact that begins it, in its parent
+-- a nested LRA's number is that of the fact that begins it, which names its parent
 record IsBegin (l : Id) (f : Fact) (n : ℕ) : Type 0 where
   number : n ≡ f.num
   parent : parent_named f.body ≡ Some l
@@ -99,7 +99,7 @@ later : (l : Id) (f : Fact) → NamesEarlier f → parent_named f.body ≡ Some 
 later l f earlier e = let there = subst (λ (o : Option Id). IfSome o (λ p. (p.home ≡ f.origin) × (p.num < f.num))) e earlier in there.1
 
 module _ (S : List Fact) (settled : IsSettled S) (l : Id) where
-  -- those that are nested come after the LRA, and its home's stamp counts their begins
+  -- the nested LRAs come after the LRA, and its home's stamp counts their begins
   pub nested_within : AllByRecursion (λ n. (l.num < n) × (n ≤ stamp S l l.home)) (nested_numbers (members_of S l))
   nested_within =
       nested_all (λ n. (l.num < n) × (n ≤ stamp S l l.home)) (λ f. member_by S l f.num f.body) (givers S l) (λ f m n e.
@@ -122,7 +122,7 @@ module _ (S : List Fact) (settled : IsSettled S) (l : Id) where
 
 -- Participants
 
--- nothing is heard where nothing is reported
+-- nothing is heard if nothing is reported
 heard_none : (S : List Fact) (l : Id) (m : ℕ) (a : Act) → ((f : Fact) → In f S → reported l m a f.body ≡ None) → heard S l m a ≡ None
 heard_none [] l m a none = refl
 heard_none (f ∷ S) l m a none =
@@ -147,7 +147,7 @@ all_mapped P k [] each = tt
 all_mapped P k (f ∷ gs) each = (each f (inl refl), all_mapped P k gs (λ g m. each g (inr m)))
 
 module _ (S : List Fact) (proper : IsProper S) (l : Id) where
-  -- what has no link was not heard or marked
+  -- for an act that a participant has no link for, nothing was heard or marked
   unheard : (f : Fact) (m : ℕ) (links : Links) (act : Act) → In f S → f.body ≡ Join l m links → is_some (link_for act links) ≡ false → heard S l m act ≡ None
   unheard f m links act k joins off = heard_none S l m act (λ g n. by g n (reported l m act g.body) refl)
     where
@@ -216,7 +216,7 @@ module _ (S : List Fact) (front : List ℕ) (settled : IsSettled S) (counted : I
 
 -- The LRA's own begin
 
--- the home's stamp counts it
+-- the stamp of its home counts the LRA's own begin
 pub own_begin : (S : List Fact) (l : Id) → is_begun S l ≡ true → l.num ≤ stamp S l l.home
 own_begin S l begun =
     let f = any_gives (begins l) S begun in

@@ -18,7 +18,7 @@ done x = Ok x
 pub ok_is : {A : Type 0} (x y : A) → done x ≡ done y → x ≡ y
 ok_is x y e = cc
 
--- what was read before, and what is still read
+-- the items read before, followed by those that are still to be read
 abbrev pub with_prefix : {A : Type 0} → List A → Read (List A) → Read (List A)
 with_prefix prefix read = read >>= λ x. Ok (prefix ++ x.0, x.1)
 
@@ -47,7 +47,7 @@ stops item next taken (Fault place) prefix left more s r total k h so_far =
     let one : with_prefix prefix (each_at item next left s r) ≡ Err (Broken place taken) = rw (k, h) refl in
     sym so_far ∙ one
 
--- where a loop stands: so many items are left to be read
+-- the state of a loop that has `n` items left to read
 abbrev pub SoFar : {S A : Type 0} → (S → Rest → Read A) → (S → A → S) → ℕ → S → Seen → List A → ℕ → S → Seen → Type 0
 SoFar item next count start old prefix left s now =
     (now.first ≡ old.first)

@@ -30,7 +30,7 @@ own a = grind (arith, nat_tests)
 own_listed : (n : ℕ) (ks : List ℕ) → list_any (λ k. k == n) (n ∷ ks) ≡ true
 own_listed n ks = let same = own n in rw same refl
 
--- the first of two is not after the first of the other
+-- the first number of one list is not greater than the first of the other
 not_after : (n m : ℕ) (ns ms : List ℕ) → AllByRecursion (λ (k : ℕ). m < k) ms → ((k : ℕ) → list_any (λ j. j == k) (n ∷ ns) ≡ list_any (λ j. j == k) (m ∷ ms)) → m ≤ n
 not_after n m ns ms all e = elim (at_most m n) [
   | inl le ↦ le

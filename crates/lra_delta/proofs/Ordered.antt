@@ -10,7 +10,7 @@ use Rattle.lra_delta.specs.Rules.{after, is_next}
 use Rattle.lra_delta.specs.Order.{Follows, AreInOrder}
 use Rattle.lra_delta.proofs.HomeLists.{home_parts}
 
--- a later home, or a greater number of the same
+-- the record is of a later home, or has a greater number at the same home
 abbrev pub IsLater : ℕ → ℕ → Record → Type 0
 IsLater home num r = (home < r.home) ⊎ ((home ≡ r.home) × (num < r.num))
 
@@ -44,7 +44,7 @@ not_later : (home num : ℕ) (r : Record) → IsLater home num r → home ≡ r.
 not_later home num r (inl a) e = absurd (omega (arith, a, e))
 not_later home num r (inr a) e = a.1
 
--- those of its home come before it
+-- all earlier records of its home have lesser numbers
 pub before : (nodes : ℕ) (last : Last) (xs : List Record) (r : Record) (rest : List Record) → AreInOrder nodes last (xs ++ r ∷ rest) → AllByRecursion (λ (q : Record). q.num < r.num) (filter (λ (q : Record). q.home == r.home) xs)
 before nodes last [] r rest f = tt
 before nodes last (x ∷ xs) r rest f = by (x.home == r.home) refl (before nodes (after last x) xs r rest f.1)

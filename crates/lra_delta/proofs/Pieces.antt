@@ -1,4 +1,4 @@
--- a source that gave some bytes more
+-- a source that gave some more bytes
 use Rattle.std.proofs.Common.{◌≡◌, ℕ, zero, suc, refl, ◌+◌, ◌≤◌, ◌<◌, List, [], ◌∷◌, ◌++◌, length, take, ap, ◌∙◌, sym, append_assoc, arith, length-take, subst}
 use Rattle.std.proofs.Math.Seq.{take-append-add}
 use Rattle.std.proofs.lemmas.List.{length-append}
@@ -23,7 +23,7 @@ both_bytes [] ys f g i = g i
 both_bytes (x ∷ xs) ys f g zero = f 0
 both_bytes (x ∷ xs) ys f g (suc i) = both_bytes xs ys (λ j. f (suc j)) g i
 
--- what a write to a part of a buffer, from a place on, leaves before the end of what was written
+-- a write to a part of a buffer leaves what stands before the end of what was written
 pub part_before : (a k n : ℕ) (xs ys : List ℕ) → a ≤ length xs → n ≤ length ys → take (a + n) (put_mid a k xs ys) ≡ take a xs ++ take n ys
 part_before a k n xs ys within fits =
     let here : length (take a xs) ≡ a = omega (arith, length-take a xs) in
@@ -40,7 +40,7 @@ pub filled_more : (taken mid new : List ℕ) (a k n : ℕ) (xs ys : List ℕ) �
 filled_more taken mid new a k n xs ys within fits p q =
     q ∙ ap (λ (l : List ℕ). l ++ take n ys) p ∙ append_assoc taken (take a xs) (take n ys) ∙ ap (λ (l : List ℕ). taken ++ l) (sym (part_before a k n xs ys within fits))
 
--- a stream that goes on
+-- the stream goes on
 
 pub still_stands : (progress : Progress) (before after : GivenBytes) (start old new : Calls) (first now : ℕ) → progress ≡ Going → Stands progress before start old first → new.failed ≡ old.failed → now < too_many_interrupted
     → Stands progress after start new now

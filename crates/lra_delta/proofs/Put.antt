@@ -1,4 +1,4 @@
--- what was put of the homes, one after another
+-- what was put for the homes so far, one after another
 use Rattle.std.proofs.Common.{Bool, ◌||◌, ◌≡◌, ◌<◌, ◌+◌, ◌++◌, ◌∙◌, ℕ, List, [], ◌∷◌, refl, sym, ap, subst, append_assoc, get_or, length, take}
 use Rattle.lra_forest.specs.declared.record.Record.{Record}
 use Rattle.std.specs.List.{All, AllByRecursion, flat_map, list_any}
@@ -23,7 +23,7 @@ homes_put v (told ∷ homes) =
     ap (λ (l : List ℕ). flat_map (record_text_as v) told.records.records ++ l) (homes_put v homes)
     ∙ sym (flat_map-append (record_text_as v) told.records.records (flat (records_told homes)))
 
--- what is typed of each home is of its records
+-- the records of typed homes are typed
 pub homes_typed : (homes : List Told) → All (λ (told : Told). All IsTypedRecord told.records.records) homes → All (All IsTypedRecord) (records_told homes)
 homes_typed homes all = All-from_recursion (All IsTypedRecord) (records_told homes) (each homes (recursion_from_All (λ (told : Told). All IsTypedRecord told.records.records) homes all))
   where
@@ -31,13 +31,13 @@ homes_typed homes all = All-from_recursion (All IsTypedRecord) (records_told hom
     each [] f = tt
     each (told ∷ ts) f = (f.0, each ts f.1)
 
--- one element more. Without it `All P (take (i + 1) xs)` stays open in a loop, and its other clause
--- with it; so `text_next` goes beside it
+-- the property of the first elements with one more element. Without this lemma `All P (take (i + 1)
+-- xs)` stays open in a loop, and so does its other clause; that is why `text_next` stands beside it
 pub all_next : {X : Type 0} (P : X → Type 0) (xs : List X) (i : ℕ) (x : X) → i < length xs → x ≡ get_or xs i x → All P (take i xs) → P x → All P (take (i + 1) xs)
 all_next P xs i x within at so_far here =
     subst (All P) (ap (λ y. take i xs ++ y ∷ []) at ∙ sym (take_more xs i x within)) (All-push P (take i xs) x so_far here)
 
--- and its text
+-- and the text with one more element
 pub text_next : {X : Type 0} (f : X → List ℕ) (xs : List X) (i : ℕ) (x : X) (old before after : List ℕ) → i < length xs → x ≡ get_or xs i x → before ≡ old ++ flat_map f (take i xs) → after ≡ before ++ f x
     → after ≡ old ++ flat_map f (take (i + 1) xs)
 text_next f xs i x old before after within at so_far here =

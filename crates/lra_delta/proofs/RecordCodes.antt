@@ -34,7 +34,7 @@ mark_small n e = grind (arith, nat_tests)
 slot_small : (s : ℕ) → is_slot s ≡ true → s < 2 ^ 8
 slot_small s e = grind (arith, nat_tests)
 
--- ---- where it is nested
+-- ---- the place where an LRA is nested
 
 pub place_code : (num : ℕ) → IsCode (place_at num) place (IsPlace num)
 unfolding place_at place
@@ -119,7 +119,7 @@ text_code fits rule small = step_from _ (number_code w8 (2 ^ 8) wide8 fits) (λ 
 length_small : (needed allowed : Bool) (n : ℕ) → is_length_for needed allowed n ≡ true → n < 2 ^ 8
 length_small needed allowed n e = grind (arith, nat_tests)
 
--- a link of some length is one that is given
+-- a link of a length other than zero is one that is given
 given_from : (needed allowed : Bool) (n : ℕ) → is_length_for needed allowed (suc n) ≡ true → is_given_length (suc n) ≡ true
 given_from needed allowed n e = grind (arith, nat_tests)
 
@@ -154,7 +154,7 @@ link_back : (text : List ℕ) → link_text (link_of text) ≡ text
 link_back [] = refl
 link_back (c ∷ text) = refl
 
--- a link that may be there, and is where it is needed
+-- the link may be there, and is there if it is needed
 abbrev pub IsLinkFor : (needed allowed : Bool) → Option (List ℕ) → Type 0
 IsLinkFor needed allowed o = IsLink o × (may_be needed allowed o ≡ true)
 
@@ -171,7 +171,7 @@ pub link_code : (needed allowed : Bool) → IsCode (link_at needed allowed) (λ 
 unfolding link_at
 link_code needed allowed = cased (text_code (is_length_for needed allowed) is_kept_or_none (length_small needed allowed)) link_of (λ text f. ap counted (link_back text)) (link_kept needed allowed) (link_made needed allowed)
 
--- the one for the end, where the version knows it
+-- the link for the end, if the version knows it
 abbrev pub IsAfter : Version → Bool → Option (List ℕ) → Type 0
 IsAfter One needed o = o ≡ None
 IsAfter Two needed o = IsLinkFor needed true o
@@ -265,7 +265,7 @@ may_after_is : (v : Version) (needed : Bool) (a : Option (List ℕ)) → IsAfter
 may_after_is One needed a f = rw f refl
 may_after_is Two needed a f = f.1
 
--- the links keep the rules of a participant's
+-- the links keep the rules for a participant's links
 record AreGiven (v : Version) (l : Links) : Type 0 where
   complete : IsLink l.complete
   compensate : IsLink l.compensate
@@ -275,7 +275,7 @@ record AreGiven (v : Version) (l : Links) : Type 0 where
   together : are_links l ≡ true
   known : knows v l.after ≡ true
 
--- what each link may be
+-- what each link may be, by itself
 record MayEach (v : Version) (l : Links) : Type 0 where
   complete : may_be false true l.complete ≡ true
   compensate : may_be (needs_compensate v l.complete) true l.compensate ≡ true
@@ -314,7 +314,7 @@ links_code v =
       after_from v (is_none b) l.after f.0.0.0.0.after (rw (← f.0.0.1) (may_each v l f.0.0.0.0).after),
     ))))))
 
--- the marks keep the rules beside such links
+-- the marks keep the rules for a participant with these links
 record AreMarks (links : Links) (m : Marks) : Type 0 where
   completed : is_outcome_for links.complete (outcome_mark m.completed) ≡ true
   compensated : is_outcome_for links.compensate (outcome_mark m.compensated) ≡ true

@@ -1,4 +1,4 @@
--- what a whole reading says of the bytes that come
+-- what the reading of a whole input says of the bytes that came
 use Rattle.std.proofs.Common.{◌≡◌, ℕ, ◌+◌, ◌-◌, ◌≤◌, ◌<◌, List, [], ◌++◌, length, take, Option, None, Some, Result, Ok, Err, refl, sym, ap, subst, ◌∙◌, arith}
 use Rattle.std.specs.Prelude.{IfErr, IfOk, IfSome}
 use Rattle.std.specs.Borrow.{GName}
@@ -20,7 +20,7 @@ use Rattle.lra_delta.proofs.FrameCodes.{frame_takes}
 use Rattle.lra_delta.proofs.Loop.{begins_itself}
 use Rattle.lra_delta.proofs.Slices.{says_told}
 
--- nothing was taken of a source that stands so, and so many bytes may be
+-- a source in this state gave nothing yet, and may give this many bytes
 pub record IsFresh (stands : Standing) (size : ℕ) (s : Seen) : Type 0 where
   pub standing : s.first.standing ≡ stands
   pub now : s.now ≡ stands
@@ -28,7 +28,7 @@ pub record IsFresh (stands : Standing) (size : ℕ) (s : Seen) : Type 0 where
   pub limit : s.limit ≡ size
   pub taken : s.taken ≡ []
 
--- so it is where a source stands at its start
+-- a source is in this state at its start
 pub fresh_source : (stands : Standing) (bytes : ℕ) (source : GName) (s : Seen) → s ≡ record { first = record { standing = stands; bytes = bytes; source = source }; now = stands; taken = []; limit = bytes } → IsFresh stands bytes s
 fresh_source stands bytes source s e = record {
   standing = ap (λ (o : Seen). o.first.standing) e;
@@ -45,7 +45,7 @@ begins_more taken more = (more, refl)
 fresh_read : (stands : Standing) (bytes : ℕ) (s : Seen) (whole : List ℕ) → IsFresh stands bytes s → value_of (frame_at (rest_in whole s)) ≡ looking bytes whole
 fresh_read stands bytes s whole f = rw (f.taken, f.limit) refl
 
--- what reading gives, whatever whole it is
+-- what reading gives, for any whole input
 abbrev Known : (bytes : ℕ) (new : Seen) (result : Result Frame Stop) → Type 0
 Known bytes new result = (whole : List ℕ) → Whole result new whole → Gives (length new.taken) (λ (x : Frame). x) result (looking bytes whole)
 
@@ -61,7 +61,7 @@ bytes_are stands bytes old new f e = ap (λ (s : Start). s.bytes) e ∙ f.bytes
 gave : (stands : Standing) (bytes : ℕ) (old new : Seen) → IsFresh stands bytes old → new.first ≡ old.first → IsSound new → GivesBytes stands.stream new.now.stream new.taken
 gave stands bytes old new f e sound = subst (λ (s : Standing). GivesBytes s.stream new.now.stream new.taken) (first_is stands bytes old new f e) sound.gives
 
--- what was given before a stop
+-- what was given before a reading stopped
 refuses : (bytes : ℕ) (new : Seen) (e : Stop) → HasReason e new → Known bytes new (Err e) → length new.taken ≤ bytes → new.limit ≤ bytes → Refuses bytes e new.taken
 refuses bytes new (Fault place) reason reads le lim = ((λ more. reads (new.taken ++ more) (begins_more new.taken more)), reason)
 refuses bytes new Cut reason reads le lim = (ap told_of (reads new.taken refl), omega (arith, reason.0, lim))
@@ -139,7 +139,7 @@ well_begins : (stands : Standing) (bytes : ℕ) (old : Seen) → IsFresh stands 
 unfolding GoesWell
 well_begins stands bytes old f few = rw (f.standing, f.now) (refl, few)
 
--- what the struct says of its source, by how that stood
+-- what the struct says of its source, in terms of its earlier state
 record Counts (stands : Standing) (bytes : ℕ) (now : Standing) : Type 0 where
   pub counted : now.calls.interrupted + stands.counted ≡ stands.calls.interrupted + now.counted
   pub few : now.calls.made + stands.calls.interrupted ≤ stands.calls.made + bytes + now.calls.interrupted

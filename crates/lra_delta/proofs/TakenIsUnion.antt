@@ -1,4 +1,4 @@
--- a view that takes the frame of a set stands for the union of its set with that
+-- a view that takes the frame of a set stands for the union of its own set with that set
 use Rattle.std.proofs.Common.{◌≡◌, ◌≤◌, ◌==◌, ◌&&◌, ℕ, List, refl, sym, ap, subst, ◌∙◌, Bool, true, false, cond, not, arith, Option, Some, None, find, length, map, nat_lt}
 use Rattle.std.proofs.lemmas.Bool.Decides.{nat_tests}
 use Rattle.lra_id.specs.Ids.{Id, is_fact_number}
@@ -43,17 +43,18 @@ purge_reaches T f a node m at purge =
     same : (a b : ℕ) → a ≡ b → ((a == b) && true) ≡ true
     same a b e = grind (arith, nat_tests)
 
--- What is not told, the receiver has
+-- What is not told, the receiver already has
 
 module _ (S T U : List Fact) (v w base : List ℕ) (t : AreTogether S T U v w) (below : IsBelow base v) where
-  -- where the base counts the last purge of a home, the first set has all purges of the home
+  -- if the base counts the last purge of a home, the first set has all purges of the home
   pub purges_known : (home : ℕ) → nat_lt (count base home) (purge_number T home) ≡ false → (f : Fact) (a : Id) → In f T → is_purge a f.body ≡ true → a.home ≡ home → In f S
   purges_known home e f a m purge at =
       let origin : f.origin ≡ home = t.proper.purges f a (t.union.right f m) purge ∙ at in
       let reach = purge_reaches T f a home m origin purge in
       known S T U v w t f m (omega (arith, reach, not_less (count base home) (purge_number T home) e, below home, ap (count v) origin))
 
-  -- where nothing about an LRA is new since the base, the first set has all that the second has about it
+  -- if nothing about an LRA is new since the base, the first set has all that the second has about
+  -- it
   pub facts_known : (l : Id) → has_news T base l ≡ false → (f : Fact) → In f T → is_about l f ≡ true → In f S
   facts_known l e f m about = known S T U v w t f m (omega (arith, no_news T base l e f m about, below f.origin))
 
@@ -76,7 +77,7 @@ split_news false false r = refl
 
 module _ (S T U : List Fact) (a : View) (frame : Frame) (base : List ℕ) (t : AreTogether S T U a.front frame.front) (sa : StandsFor S a) (is : IsFrame T base frame)
     (nodes : length a.front ≡ length frame.front) (below : IsBelow base a.front) where
-  -- the home purged after the base
+  -- the home has purged after the base
   abbrev listed : Id → Bool
   listed l = nat_lt (count base l.home) (purge_number T l.home)
 
@@ -93,7 +94,7 @@ module _ (S T U : List Fact) (a : View) (frame : Frame) (base : List ℕ) (t : A
           ap (λ (o : Option (List ℕ)). is_gone (count frame.front l.home) o l.num) (is.unlisted l.home low high e)
           ∙ not_told (is_fact_number l.num) (is_covered frame.front l) (not (is_held T l))
 
-  -- of each LRA what is taken of the frame is what the union has
+  -- what is taken of the frame for each LRA is what the union has
   pub taken_of_frame : (l : Id) → 1 ≤ l.home → l.home ≤ length a.front → taken_from a frame l ≡ cond (is_held U l) (Some (record_of (length a.front) U l)) None
   taken_of_frame l low high =
       let far : l.home ≤ length frame.front = omega (arith, high, nodes) in

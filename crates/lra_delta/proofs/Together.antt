@@ -1,4 +1,4 @@
--- what each link may be, and that they are those of a participant
+-- what each link may be, and that the links together are those of a participant
 use Rattle.std.proofs.Common.{◌≡◌, ◌&&◌, ℕ, List, Bool, true, false, Option, Some, None, refl, is_none, is_some}
 use Rattle.lra_facts.specs.Links.{are_together, links_together}
 use Rattle.lra_delta.specs.declared.version.Version.{Version}
@@ -78,7 +78,7 @@ pub with_both : (a b : Bool) → a ≡ true → b ≡ true → (a && b) ≡ true
 with_both true b e f = f
 with_both false b e f = absurd cc
 
--- so there are such links
+-- so such links exist
 pub links_are : (v : Version) (k c s f a : Option (List ℕ)) → may_be (needs_compensate v k) true c ≡ true → may_be false (is_some c) s ≡ true → may_be false (is_some c) f ≡ true → may_be_after v (is_none c) a ≡ true → links_together k c s f a ≡ None → ⊥
 links_are v k c s f a one two three four none =
     let all = all_together v k c s f a (with_both _ _ (given k) (with_both _ _ one (with_both _ _ two (with_both _ _ three four)))) in

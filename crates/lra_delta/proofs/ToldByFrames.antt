@@ -25,7 +25,7 @@ told_by base telling = record {
   live = λ home. told_map (λ (t : Told). held_numbers t.held) None telling.homes (home - 1);
 }
 
--- of each LRA the same is taken
+-- the same is taken for each LRA
 same_taken : (a : View) (frame : Frame) (telling : Telling) (l : Id) → IsToldBy frame telling → absorbed_of a telling l ≡ taken_from a frame l
 same_taken a frame telling l is =
     ap (λ v. absorbed (is_covered a.front l) (is_gone (count v l.home) (told_held telling l.home) l.num) (record_at a l) (find (is_of l) (told_records telling l.home))) is.front

@@ -50,7 +50,7 @@ few_by false n i le = omega arith
 pub few_more : (last : Last) (r : Record) (i : ℕ) → last.count ≤ i → (after last r).count ≤ i + 1
 few_more last r i le = few_by (last.home == r.home) last.count i le
 
--- ---- one of them changes
+-- ---- the records of one home change
 
 pub home_there : (k : ℕ) (ts : List Told) (i : ℕ) (t : Told) → AreToldFrom k ts → slice_get ts i ≡ Some t → t.records.home ≡ k + i
 home_there k [] i t f e = absurd cc
@@ -90,7 +90,7 @@ pub on_three : {T E : Type 0} (r : Result T E) (P Q R X : Type 0) → (P → Q �
 on_three (Ok x) P Q R X f h g k = f h g k
 on_three (Err e) P Q R X f h g k = tt
 
--- as many homes as there are nodes
+-- there are as many homes as nodes
 pub as_many : (n : ℕ) (ts : List Told) (front : List Record) → records_told ts ≡ by_home n front → length ts ≡ n
 as_many n ts front e =
     sym (length-map ts (λ (told : Told). told.records.records)) ∙ ap (λ (l : List (List Record)). length l) e ∙ length_homes (λ home. filter (λ (r : Record). r.home == home) front) n

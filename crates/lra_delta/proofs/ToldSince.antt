@@ -1,4 +1,4 @@
--- what is told of each home, once each entry beyond a base is looked at
+-- what is told of each home, after each entry beyond a base was looked at
 use Rattle.std.proofs.Common.{◌≡◌, ◌↔◌, inl, inr, ◌≤◌, ◌<◌, ◌+◌, ◌-◌, ◌||◌, ℕ, zero, suc, List, [], ◌∷◌, ◌++◌, refl, sym, ap, subst, ◌∙◌, Bool, true, false, cond, arith, Option, Some, None, filter, find, get_or, length, map, nat_lt}
 use Rattle.std.specs.Prelude.{IfSome, slice_get}
 use Rattle.std.specs.Option.{option_map}
@@ -46,7 +46,7 @@ listed_gives l (q ∷ es) t = by (same_id (id_of q) l) refl (listed_gives l es) 
     by true at rest s = (q, inl refl, at)
     by false at rest s = let found = rest s in (found.0, inr found.1, found.2)
 
--- an LRA has an entry beyond a count where its record has a greater stamp
+-- an LRA has an entry beyond a count exactly if its record has a greater stamp
 pub listed_is : (es : List Entry) (known : Id → Option (List ℕ)) (origin n : ℕ) → ((e : Entry) → In e es ↔ ((n < e.stamp) × (stamp_at (known (id_of e)) origin ≡ e.stamp)))
     → (l : Id) → nat_lt n (stamp_at (known l) origin) ≡ is_listed es l
 listed_is es known origin n h l = same_bools (nat_lt n (stamp_at (known l) origin)) (is_listed es l) there back
@@ -63,7 +63,7 @@ listed_is es known origin n h l = same_bools (nat_lt n (stamp_at (known l) origi
 
 -- Nodes
 
--- past its end no stamp says anything
+-- a node beyond the end of the stamps has no newer stamp
 newer_within : (base v : List ℕ) (node : ℕ) → 1 ≤ node → nat_lt (count base node) (count v node) ≡ true → node ≤ length v
 newer_within base v node some t = by (nat_lt (node - 1) (length v)) refl
   where
@@ -74,7 +74,7 @@ newer_within base v node some t = by (nat_lt (node - 1) (length v)) refl
         past : (a b : ℕ) → nat_lt a b ≡ false → b ≤ a
         past a b e = grind (arith, nat_tests)
 
--- stamps are beyond a base where they are so of one of as many nodes, or more
+-- stamps are beyond a base if that is so at one of as many nodes, or more
 newer_is : (n : ℕ) (base v : List ℕ) → length v ≤ n → is_newer_to n base (Some v) ≡ is_beyond base v
 newer_is n base v few = same_bools (is_newer_to n base (Some v)) (is_beyond base v) there back
   where
@@ -105,7 +105,7 @@ any_last t (m ∷ ns) n = by (t m) (any_last t ns n)
     by true rest = refl
     by false rest = rest
 
--- one node more
+-- one more node is looked at
 pub newer_next : (n : ℕ) (base : List ℕ) (stamps : Option (List ℕ)) → is_newer_to (n + 1) base stamps ≡ (is_newer_to n base stamps || is_newer base stamps (n + 1))
 newer_next n base stamps =
     let more : n + 1 ≡ suc n = omega arith in
@@ -114,7 +114,7 @@ newer_next n base stamps =
 abbrev stamps_kept : Option Record → Option (List ℕ)
 stamps_kept = option_map (λ (r : Record). r.stamps)
 
--- of one LRA what is told is its record, if that is beyond the base
+-- what is told of one LRA is its record, if that is beyond the base
 told_passing : (base : List ℕ) (o : Option Record) → IfSome (stamps_kept o) (λ v. length v ≤ 8) → told_too (is_newer_to 8 base (stamps_kept o)) o None ≡ passed (λ r. is_beyond base r.stamps) o
 told_passing base None few = by (is_newer_to 8 base None) None
   where
@@ -162,7 +162,7 @@ record_there hs i h num e =
     ap (λ n. find (is_of (at (suc i) num)) (get_or (map (λ (home : HomeRecords). home.records) hs) n [])) back
     ∙ ap (find (is_of (at (suc i) num))) (map_there (λ (home : HomeRecords). home.records) hs i h [] e)
 
--- Before a record is told
+-- Before any record is told
 
 without_numbered : (base purges : List ℕ) (k : ℕ) (ts : List Told) (kept : List HomeRecords) → map part_of ts ≡ map (part_without base purges) kept → AreHomesFrom k kept → AreHomesFrom k (homes_told ts)
 without_numbered base purges k [] kept e are = tt
@@ -188,7 +188,7 @@ without_homes base purges ts kept e are = record {
   ordered = without_order base purges ts kept e;
 }
 
--- Once all are told
+-- After all records are told
 
 pub told_parts : (base purges : List ℕ) (kept : List HomeRecords) (old new : List Told) → AreHomesFrom 1 kept → AllByRecursion (λ (h : HomeRecords). AreOf h.home h.records) kept
     → ((l : Id) → IfSome (stamps_kept (record_in kept l)) (λ v. length v ≤ 8)) → map part_of old ≡ map (part_without base purges) kept

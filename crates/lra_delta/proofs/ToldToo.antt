@@ -1,4 +1,4 @@
--- what is told once one LRA more is
+-- what is told after one more LRA is asked for
 use Rattle.std.proofs.Common.{◌≡◌, ◌≤◌, ◌+◌, ◌-◌, ◌==◌, ◌||◌, ℕ, zero, suc, List, [], ◌∷◌, refl, sym, ap, subst, ◌∙◌, Bool, true, false, cond, arith, Option, Some, None, find, get_or, length, map}
 use Rattle.std.specs.Prelude.{slice_get, slice_set}
 use Rattle.std.specs.List.{AllByRecursion}
@@ -16,12 +16,12 @@ use Rattle.lra_delta.proofs.ToldLists.{lists_set}
 
 -- Of one LRA
 
--- who isn't asked for is told as before
+-- an LRA that is not asked for is told as before
 pub as_before : (kept told : Option Record) → told_too false kept told ≡ told
 as_before kept None = refl
 as_before kept (Some r) = refl
 
--- who asks twice is told once
+-- an LRA that is asked for twice is told once
 pub asked_twice : (a b : Bool) (kept told : Option Record) → told_too b kept (told_too a kept told) ≡ told_too (a || b) kept told
 asked_twice a b kept (Some r) = refl
 asked_twice true b kept None = by kept
@@ -37,7 +37,7 @@ asked_twice false b kept None = refl
 
 -- Records of one home
 
--- what is found has the name
+-- the record that is found has the name
 pub found_is : (l : Id) (rs : List Record) (r : Record) → find (is_of l) rs ≡ Some r → is_of l r ≡ true
 found_is l [] r e = absurd cc
 found_is l (q ∷ rs) r e = by (is_of l q) refl e (found_is l rs r)
@@ -52,7 +52,7 @@ found_home l rs r e = own_home (found_is l rs r e)
     own_home : is_of l r ≡ true → r.home ≡ l.home
     own_home t = grind (arith, nat_tests, t)
 
--- a record is put
+-- the record is told after it is put
 pub is_told : (id : Id) (kept told : List Record) (r : Record) → AreOf id.home told → find (is_of id) kept ≡ Some r → find (is_of id) told ≡ None
     → (l : Id) → find (is_of l) (put_record r told) ≡ told_too (same_id id l) (find (is_of l) kept) (find (is_of l) told)
 is_told id kept told r are found untold l = put_find id.home r told l (found_home id kept r found) are ∙ by (same_id id l) refl
@@ -105,7 +105,7 @@ set_there (x ∷ ts) zero (suc j) t' e = refl
 set_there (x ∷ ts) (suc i) zero t' e = refl
 set_there (x ∷ ts) (suc i) (suc j) t' e = set_there ts i j t' (λ same. e (ap suc same))
 
--- the records of one home are told as they are to be, and so are all
+-- if the records of one home are told as they have to be, so are those of all homes
 pub told_at : (kept : List HomeRecords) (ts : List Told) (i : ℕ) (h : HomeRecords) (t t' : Told) (id : Id) → AreHomes (length kept) (homes_told ts) → slice_get ts i ≡ Some t → slice_get kept i ≡ Some h → i ≡ id.home - 1 → 1 ≤ id.home
     → t'.held ≡ t.held → t'.records.home ≡ t.records.home → AreOf t'.records.home t'.records.records
     → ((l : Id) → find (is_of l) t'.records.records ≡ told_too (same_id id l) (find (is_of l) h.records) (find (is_of l) t.records.records))
@@ -154,7 +154,7 @@ told_at kept ts i h t t' id are there own place some held home order found = rec
 
 -- One after another
 
--- some are asked for, and then others
+-- some LRAs are asked for, and then others
 pub both_asked : (p q r : Id → Bool) (kept : List HomeRecords) (old now new : List Told) → ((l : Id) → r l ≡ (p l || q l)) → AreTold p kept old now → AreTold q kept now new → AreTold r kept old new
 both_asked p q r kept old now new either f g = record {
   homes = g.homes;
@@ -164,6 +164,6 @@ both_asked p q r kept old now new either f g = record {
       ∙ ap (λ b. told_too b (record_in kept l) (record_in (homes_told old) l)) (sym (either l));
 }
 
--- it goes by who is asked for
+-- the result depends only on which LRAs are asked for
 pub same_asked : (p q : Id → Bool) (kept : List HomeRecords) (old new : List Told) → ((l : Id) → q l ≡ p l) → AreTold p kept old new → AreTold q kept old new
 same_asked p q kept old new same f = record { homes = f.homes; lists = f.lists; found = λ l. f.found l ∙ ap (λ b. told_too b (record_in kept l) (record_in (homes_told old) l)) (sym (same l)) }

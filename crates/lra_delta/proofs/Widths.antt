@@ -1,4 +1,4 @@
--- numbers in so many bytes
+-- numbers in a given number of bytes
 use Rattle.std.proofs.Common.{◌≡◌, ◌%◌, ◌/◌, ◌^◌, ℕ, refl, arith}
 use Rattle.std.specs.Int.{w16, w32, to_be_bytes}
 

@@ -4,7 +4,8 @@ use Rattle.lra_delta.specs.Encoding.{record_text_as}
 use Rattle.lra_delta.specs.Typed.{IsTypedRecord}
 use Rattle.lra_delta.proofs.frame_encoding.put_each_record.Given as goal
 
--- what was put, and the text of what is left; all are typed if those are that are left
+-- what was put, followed by the text of what is left; all records are typed if those that are left
+-- are
 abbrev pub invariant-loop-kept : goal.invariant-loop-kept
 invariant-loop-kept g l = record {
   same : g.O.Output.start l.out ≡ g.O.Output.start l.fn.out;

@@ -10,7 +10,7 @@ use Rattle.lra_delta.proofs.Loop.{goes_on, ends, is_done}
 use Rattle.lra_delta.proofs.ToldLists.{few_more, in_order_more, last_more, last_of}
 use Rattle.lra_delta.proofs.frame_fields.each_record.Goals as goal
 
--- with this one too they are in order
+-- the records are in order with this one too
 next_in_order : (nodes : ℕ) (done : List Record) (last : Last) (r : Record) → last ≡ last_of start done → AreInOrder nodes start done → Follows nodes last r → AreInOrder nodes start (done ++ r ∷ [])
 next_in_order nodes done last r e order follows = in_order_more nodes start done r order (subst (λ (l : Last). Follows nodes l r) e follows)
 

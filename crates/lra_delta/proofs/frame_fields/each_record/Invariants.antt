@@ -7,7 +7,7 @@ use Rattle.lra_delta.proofs.Loop.{SoFar}
 use Rattle.lra_delta.proofs.ToldLists.{last_of}
 use Rattle.lra_delta.proofs.frame_fields.each_record.Given as goal
 
--- some were read and put, in order, and the others are left
+-- some records were read and put, in order, and the others are left
 abbrev pub invariant-records : goal.invariant-records
 invariant-records g l = let seen = g.I.Input.seen in record {
   done : List Record;

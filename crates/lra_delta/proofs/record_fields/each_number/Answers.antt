@@ -7,7 +7,7 @@ use Rattle.lra_delta.specs.Seen.{Seen}
 use Rattle.lra_delta.proofs.Loop.{SoFar, goes_on, ends, is_done}
 use Rattle.lra_delta.proofs.record_fields.each_number.Goals as goal
 
--- a number more, put behind those that were read
+-- one more number is put behind those that were read
 put_next : (count place from : ℕ) (old now : Seen) (numbers : List ℕ) (n : ℕ) → from ≡ place → place < length numbers
     → SoFar (λ (s : ℕ). whole_at w64) (λ (s x : ℕ). s) count 0 old (take place numbers ++ n ∷ []) (count - (place + 1)) 0 now
     → SoFar (λ (s : ℕ). whole_at w64) (λ (s x : ℕ). s) count 0 old (take (place + 1) (slice_set numbers from n)) (count - (place + 1)) 0 now

@@ -4,7 +4,7 @@ use Rattle.std.specs.Prelude.{◌↔◌, IsTrue}
 use Rattle.lra_forest.proofs.EqualRecords.{records_decide}
 use Rattle.lra_delta.proofs.sameness.same_forest.Goals as goal
 
--- two tests of one thing give one answer
+-- two tests of the same property give the same answer
 one_answer : {P : Type 0} (a b : Bool) → (IsTrue a ↔ P) → Decides b P → a ≡ b
 one_answer true b own other = sym (other.1 (own.0 refl))
 one_answer false true own other = own.1 (other.0 refl)

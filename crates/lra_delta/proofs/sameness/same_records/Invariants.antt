@@ -3,7 +3,7 @@ use Rattle.lra_forest.specs.declared.merging.Told.{Told}
 use Rattle.lra_delta.specs.SameFrames.{same_records}
 use Rattle.lra_delta.proofs.sameness.same_records.Given as goal
 
--- those behind tell whether all are the same
+-- the lists are the same exactly if what is left is
 abbrev pub invariant-loop-place : goal.invariant-loop-place
 invariant-loop-place l =
     same_records (map (λ (told : Told). told.records.records) (drop l.place l.a)) (map (λ (told : Told). told.records.records) (drop l.place l.b))

@@ -4,7 +4,7 @@ use Rattle.lra_delta.specs.Sending.{part_of, part_without}
 use Rattle.lra_delta.proofs.ToldSince.{told_parts, without_homes}
 use Rattle.lra_delta.proofs.since.homes_since.Goals as goal
 
--- before a record is told
+-- before any record is told
 without : (c : goal.After-told-2-1) → map part_of c.in_ok-told.told.items ≡ map (part_without c.args.base.now c.args.purges.now) c.args.replica.now.homes
 without c = subst (λ (hs : List HomeRecords). map part_of c.in_ok-told.told.items ≡ map (part_without c.args.base.now c.args.purges.now) hs) c.homes.ensures.homes c.in_ok-told.ensures
 

@@ -12,7 +12,7 @@ use Rattle.lra_delta.proofs.ToldSince.{number_there, order_there, told_there}
 use Rattle.lra_delta.proofs.ToldToo.{told_at}
 use Rattle.lra_delta.proofs.since.tell_entry.Goals as goal
 
--- the home of the entry, as it is told and as it is kept
+-- the home of the entry, both as it is told and as it is kept
 told_home : (c : goal.After-index-homes-place) → slice_get c.args.told.now.items (c.from-place.result - 1) ≡ Some c.index_mut.result.now
 told_home c = slice_get-get_or c.args.told.now.items (c.from-place.result - 1) c.index_mut.result.now (omega (arith, c.if-place-homes.false, c.requires.told.count, length-map c.args.told.now.items (λ (t : Told). t.records))) ∙ ap (λ (t : Told). Some t) (sym c.index_mut.ensures.value)
 
@@ -33,7 +33,7 @@ tell_number-requires-clause-order c =
     let i = c.from-place.result - 1 in
     order_there (homes_told c.args.told.now.items) i c.index_mut.result.now.records c.requires.told.ordered (told_there c.args.told.now.items i c.index_mut.result.now (told_home c))
 
--- its number is that of the entry
+-- the home's number is that of the entry
 own_home : (c : goal.After-index-homes-place) → c.index-homes-place.result.home ≡ c.args.entry.now.home
 own_home c = omega (arith, number_there 1 c.args.homes.now (c.from-place.result - 1) c.index-homes-place.result c.requires.homes.numbered (kept_home c), c.from-place.ensures, c.number.ensures.value, c.number.ensures.range.0)
 
