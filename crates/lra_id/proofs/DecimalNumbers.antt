@@ -21,7 +21,7 @@ starts n small = elim (zero_or_more n) [
   | inr more ↦ inr (first_decimal n more small)
 ]
 
--- what begins with a plus or a needless zero is no printed number
+-- a text that begins with a plus or a needless zero is no printed number
 pub odd_is_none : (text : List ℕ) (n : ℕ) → n < 2 ^ 64 → text ≡ decimal n
     → ((get_or text 0 0 ≡ 43 → length text ≡ 0) → (get_or text 0 0 ≡ 48) × (length text ≢ 1)) → ⊥
 odd_is_none text n small e odd = elim (starts n small) [

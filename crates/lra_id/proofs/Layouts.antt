@@ -5,7 +5,7 @@ use Rattle.std.specs.Int.{from_be_bytes, to_be_bytes, w64}
 use Rattle.std.proofs.lemmas.Nat.{from_be_bytes-to_be_bytes_8}
 use Rattle.lra_id.specs.Ids.{Id, IsId, IsTextOf, layout, variant_and_num}
 
--- the eight bytes from place 8 on
+-- the eight bytes starting at place 8
 abbrev pub low_bytes : List ℕ → List ℕ
 low_bytes b =
     get_or b 8 0 ∷ get_or b 9 0 ∷ get_or b 10 0 ∷ get_or b 11 0 ∷ get_or b 12 0 ∷ get_or b 13 0 ∷ get_or b 14 0 ∷ get_or b 15 0 ∷ []
@@ -23,7 +23,7 @@ num_back bytes id valid same =
 pub same_layout : (a b : Id) → a.home ≡ b.home → a.num ≡ b.num → layout a ≡ layout b
 same_layout a b h n = let e : a ≡ b = ap (λ (x : ℕ). record { home = x; num = a.num }) h ∙ ap (λ (x : ℕ). record { home = b.home; num = x }) n in ap layout e
 
--- what the bytes of a text are read as, the text is read as
+-- a text is read as whatever its bytes are read as
 pub read_as : {E : Type 0} (text uuid bytes : List ℕ) (r : Result Id E) → Some uuid ≡ parsed text → bytes ≡ uuid
     → (length text ≡ 45 → take 9 text ≡ codes "urn:uuid:") → IfOk r (λ id. IsId id × (bytes ≡ layout id)) → IfOk r (λ id. IsId id × IsTextOf text id)
 read_as text uuid bytes (Ok id) was same prefix (valid, laid) = (valid, record { bytes = sym was ∙ ap (λ (b : List ℕ). Some b) (sym same ∙ laid); prefix = prefix })

@@ -1,4 +1,4 @@
--- two fronts, node by node
+-- two fronts, compared node by node
 use Rattle.std.proofs.Common.{◌≡◌, ◌<◌, ◌+◌, ◌-◌, ℕ, zero, suc, List, [], ◌∷◌, ◌++◌, refl, sym, ap, ◌∙◌, arith, length, take, get_or, max, min, replicate, set}
 use Rattle.std.proofs.Math.Seq.{take-append_seam}
 use Rattle.std.proofs.lemmas.List.{length-take-le}
@@ -48,7 +48,8 @@ length-pairwise f [] (y ∷ ys) e = absurd cc
 length-pairwise f (x ∷ xs) [] e = absurd cc
 length-pairwise f (x ∷ xs) (y ∷ ys) e = ap suc (length-pairwise f xs ys (omega (arith, e)))
 
--- fronts of as many nodes have as many counts, and the second's are split where the first's are
+-- the fronts have the same number of nodes and of counts, and the counts of both are split at the
+-- same place
 pub record AreAlike (a b : Inside) : Type 0 where
   pub sizes : length a.counts ≡ length b.counts
   pub nodes : b.nodes ≡ a.nodes
@@ -84,7 +85,7 @@ pairs_seen f a b ha hb e =
     let al = alike a b ha hb e in
     take_pairs f a.nodes a.counts b.counts al.sizes ∙ ap (λ k. pairwise f (take a.nodes a.counts) (take k b.counts)) (sym al.nodes)
 
--- a count that is kept is the one that is seen
+-- the count that is kept at a place is the one that is seen there
 in_front : (xs : List ℕ) (n k : ℕ) → get_or (xs ++ replicate n 0) k 0 ≡ get_or xs k 0
 in_front [] zero k = refl
 in_front [] (suc n) zero = refl
@@ -95,7 +96,7 @@ in_front (x ∷ xs) n (suc k) = in_front xs n k
 pub kept_count : (a : Inside) → IsPadded a → (k : ℕ) → get_or (counts_of a) k 0 ≡ get_or a.counts k 0
 kept_count a h k = sym (ap (λ r. get_or r k 0) h.rest ∙ in_front (take a.nodes a.counts) (8 - a.nodes) k)
 
--- the count of a pair
+-- the count of the paired fronts at a node is the pair of the two counts there
 pair_count : (f : ℕ → ℕ → ℕ) → f 0 0 ≡ 0 → (v w : List ℕ) → length v ≡ length w → (k : ℕ) → get_or (pairwise f v w) k 0 ≡ f (get_or v k 0) (get_or w k 0)
 pair_count f none [] [] e k = sym none
 pair_count f none [] (b ∷ w) e k = absurd cc
@@ -135,7 +136,7 @@ join_none : (v : List ℕ) → join_fronts v [] ≡ v
 join_none [] = refl
 join_none (a ∷ v) = refl
 
--- beyond the nodes there are zeros
+-- beyond its nodes each front counts zeros
 join_filled : (v w : List ℕ) (m n k : ℕ) → length v + m ≡ length w + n → k + max (length v) (length w) ≡ length v + m
     → join_fronts (v ++ replicate m 0) (w ++ replicate n 0) ≡ join_fronts v w ++ replicate k 0
 join_filled [] [] zero zero zero e l = refl

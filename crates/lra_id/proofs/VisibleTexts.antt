@@ -1,4 +1,4 @@
--- Each byte of the text of an id is visible: no white space, no control byte, and ASCII alone.
+-- Each byte of the text of an id is visible: only ASCII, with no white space and no control byte.
 use Rattle.std.proofs.Common.{ℕ, Bool, true, false, IsTrue, List, length, ◌<◌, ◌&&◌, nat_lt, if◌then◌else◌, refl, arith, All, ◌≡◌}
 use Rattle.std.proofs.lemmas.Bool.Decides.{nat_tests}
 use Rattle.std.proofs.lemmas.List.Elements.{All-from_get_or}

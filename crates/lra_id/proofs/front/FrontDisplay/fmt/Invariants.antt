@@ -4,7 +4,7 @@ use Rattle.std.specs.Fmt.{decimal, HasWritten, IsPlainFormatter}
 use Rattle.lra_id.specs.Fronts.{one_more_count}
 use Rattle.lra_id.proofs.front.FrontDisplay.fmt.Given as goal
 
--- the first count and those so far were written
+-- the first count and the counts so far were written
 abbrev pub invariant-loop-count : goal.invariant-loop-count
 invariant-loop-count g l =
     IsPlainFormatter l.fn.f → HasWritten g.W.Write.write_str_gives l.fn.f (decimal l.first ++ flat_map one_more_count (take l.count-index l.count-items)) l.f
