@@ -1,4 +1,4 @@
--- one stamp of an LRA in place of another
+-- an LRA gets one stamp in place of another
 use Rattle.std.proofs.Common.{◌≡◌, ◌↔◌, ◌⊎◌, inl, inr, ◌≤◌, ◌==◌, ℕ, List, refl, sym, ap, ◌∙◌, Bool, true, false, cond, arith, Option, nat_lt}
 use Rattle.std.proofs.lemmas.Bool.Decides.{nat_tests}
 use Rattle.lra_id.specs.Ids.{Id, same_id}
@@ -33,7 +33,7 @@ is_made l s e i same = grind (arith, nat_tests)
 not_made : (l : Id) (s : ℕ) (e : Entry) → same_id (id_of e) l ≡ false → same_entry e (made l s) ≡ false
 not_made l s e i = grind (arith, nat_tests)
 
--- entries of other LRAs stay
+-- the entries of other LRAs stay
 in_left_other : (l : Id) (s : ℕ) (es : List Entry) (e : Entry) (b : Bool) → In e (cond b (without (made l s) es) es) → In e es
 in_left_other l s es e true i = (in_without (made l s) es e i).0
 in_left_other l s es e false i = i
@@ -64,7 +64,7 @@ others l s t es e o = by (s == t)
       (λ i. entered_other_in l t (without_stamp l s es) e (nat_lt 0 t) (left_other_in l s es e o (nat_lt 0 s) i)),
     )
 
--- of the LRA's own the one with the stamp is gone
+-- of the LRA's own entries, the one with the old stamp is gone
 own_gone : (l : Id) (s : ℕ) (es : List Entry) (e : Entry) → same_id (id_of e) l ≡ true → (In e es → (1 ≤ e.stamp) × (s ≡ e.stamp)) → (b : Bool) → nat_lt 0 s ≡ b → In e (cond b (without (made l s) es) es) → ⊥
 own_gone l s es e o h true t i =
     let gone = in_without (made l s) es e i in
@@ -76,7 +76,7 @@ own_gone l s es e o h false t i = let k = h i in let none : s ≡ 0 = zero_of s 
     zero_of : (n : ℕ) → nat_lt 0 n ≡ false → n ≡ 0
     zero_of n t = grind (arith, nat_tests)
 
--- and the one that is entered is there
+-- and the entry that was put is there
 own_in : (l : Id) (t : ℕ) (es : List Entry) (e : Entry) → same_id (id_of e) l ≡ true → (In e es → ⊥) → (b : Bool) → nat_lt 0 t ≡ b → In e (cond b (put_entry (made l t) es) es) ↔ ((1 ≤ e.stamp) × (t ≡ e.stamp))
 own_in l t es e o none true p = ((λ i. by (in_put (made l t) es e i)), (λ h. put_in (made l t) es e (inl (same_parts e (made l t) (is_made l t e o h.1)))))
   where
@@ -110,7 +110,7 @@ same_ids a b e =
     two : (f : ℕ → ℕ → Id) (a b x y : ℕ) → a ≡ x → b ≡ y → f a b ≡ f x y
     two f a b x y e g = cc
 
--- the entries are those of what is known with the stamps of one LRA that are now
+-- the entries are those of what is known, with the new stamps of the LRA
 pub moved_index : (origin : ℕ) (l : Id) (was now : Option (List ℕ)) (known : Id → Option (List ℕ)) (es : List Entry) → known l ≡ was → IsIndexOf origin es known
     → IsIndexOf origin (with_exchange l (stamp_at was origin) (stamp_at now origin) es) (with_stamps l now known)
 moved_index origin l was now known es known_is h = record { rising = moved_rises l (stamp_at was origin) (stamp_at now origin) es h.rising; held = λ e. by e (same_id (id_of e) l) refl }

@@ -1,4 +1,4 @@
--- an index and what is known
+-- an index and the stamps that are known
 use Rattle.std.proofs.Common.{◌≡◌, ◌↔◌, ◌⊎◌, inl, inr, ◌∷◌, ◌≤◌, ◌<◌, ℕ, List, [], refl, sym, ap, ◌∙◌, subst, Bool, true, false, cond, arith, filter, length, nat_lt, IfSome, Option}
 use Rattle.std.proofs.lemmas.Bool.Decides.{nat_tests}
 use Rattle.std.specs.List.{AllByRecursion}
@@ -19,7 +19,8 @@ not_both x y e f = let one : is_before y x ≡ false = one_way x y e in absurd c
 not_self : (x y : Entry) → is_before x y ≡ true → y ≡ x → ⊥
 not_self x y e s = let itself : is_before x x ≡ false = not_itself x in let here : is_before x y ≡ is_before x x = ap (λ (z : Entry). is_before x z) s in absurd cc
 
--- of two that are each first, neither comes before the other
+-- if two entries are each first in the same entries, neither comes before the other, so they are
+-- one
 first : (x y : Entry) (xs ys : List Entry) → IsRising (x ∷ xs) → IsRising (y ∷ ys) → (x ≡ y) ⊎ In x ys → (y ≡ x) ⊎ In y xs → x ≡ y
 first x y xs ys g h (inl s) j = s
 first x y xs ys g h (inr i) (inl s) = sym s

@@ -16,7 +16,7 @@ one_way a b e = grind (arith, nat_tests)
 three : (f : ℕ → ℕ → ℕ → Entry) (a b c x y z : ℕ) → a ≡ x → b ≡ y → c ≡ z → f a b c ≡ f x y z
 three f a b c x y z e g h = cc
 
--- two that are one have one stamp, home and number
+-- two equal entries have the same stamp, home and number
 pub same_parts : (a b : Entry) → same_entry a b ≡ true → a ≡ b
 same_parts a b e =
     let stamp : a.stamp ≡ b.stamp = grind (arith, nat_tests) in
@@ -24,7 +24,7 @@ same_parts a b e =
     let num : a.num ≡ b.num = grind (arith, nat_tests) in
     three (λ s h n. record { stamp = s; home = h; num = n }) a.stamp a.home a.num b.stamp b.home b.num stamp home num
 
--- of two, one comes before the other, or they are one
+-- of two entries, one comes before the other, or they are the same
 pub neither : (a b : Entry) → is_before a b ≡ false → same_entry a b ≡ false → is_before b a ≡ true
 neither a b e f = grind (arith, nat_tests)
 

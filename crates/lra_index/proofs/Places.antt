@@ -1,4 +1,4 @@
--- where entries stand among entries that are in order
+-- the places of entries in a list that is in order
 use Rattle.std.proofs.Common.{◌≡◌, ◌≤◌, ◌<◌, ℕ, zero, suc, List, [], ◌∷◌, refl, ap, Bool, true, false, cond, arith, filter, drop, length, get_or, nat_lt, nat_le, slice_get}
 use Rattle.std.specs.List.{AllByRecursion}
 use Rattle.std.specs.List.Sorted.{IsPartitionPoint, IsPartitionedBy}
@@ -7,7 +7,7 @@ use Rattle.lra_index.specs.declared.entry.Entry.{Entry}
 use Rattle.lra_index.specs.Entries.{IsRising, count_before, is_before, is_entry}
 use Rattle.lra_index.proofs.Orders.{before_next, stamps_rise}
 
--- behind one that fails the test all fail it
+-- all elements behind one that fails the test fail it
 abbrev Parts : (Entry → Bool) → List Entry → Type 0
 Parts p [] = Unit {0}
 Parts p (x ∷ xs) = (p x ≡ false → AllByRecursion (λ y. p y ≡ false) xs) × Parts p xs
@@ -28,7 +28,7 @@ parted p (x ∷ xs) h zero (suc j) d le less e = by (p x) refl
 parted p (x ∷ xs) h (suc i) zero d le less e = absurd (omega (arith, le))
 parted p (x ∷ xs) h (suc i) (suc j) d le less e = parted p xs h.1 i j d (omega (arith, le)) (omega (arith, less)) e
 
--- behind one that doesn't come before e, none does
+-- no entry behind one that doesn't come before e comes before e
 none_before : (e x : Entry) (xs : List Entry) → is_before x e ≡ false → AllByRecursion (λ y. is_before x y ≡ true) xs → AllByRecursion (λ y. is_before y e ≡ false) xs
 none_before e x [] t h = tt
 none_before e x (y ∷ ys) t h = (by (is_before y e) refl, none_before e x ys t h.1)
@@ -60,11 +60,11 @@ stamp_parts count (x ∷ xs) h = ((λ t. none_within count x xs t h.0), stamp_pa
 pub parted_to : (count : ℕ) (xs : List Entry) → IsRising xs → IsPartitionedBy (λ (q : Entry). nat_le q.stamp count) xs
 parted_to count xs h = parted (λ q. nat_le q.stamp count) xs (stamp_parts count xs h)
 
--- before it all pass, and from it on none does
+-- all elements before the place pass the test, and none from it on does
 abbrev pub Point : (Entry → Bool) → List Entry → ℕ → Type 0
 Point p xs k = IsPartitionPoint (λ y. p y ≡ true) (λ y. p y ≡ false) xs k
 
--- so it is the place of the entry
+-- so the partition point is the place of the entry
 pub place_is : (e : Entry) (xs : List Entry) (k : ℕ) → k ≤ length xs → Point (λ q. is_before q e) xs k → k ≡ count_before e xs
 place_is e [] k le p = omega (arith, le)
 place_is e (x ∷ xs) k le p = by k le p (place_is e xs) (is_before x e) refl
@@ -81,7 +81,7 @@ place_is e (x ∷ xs) k le p = by k le p (place_is e xs) (is_before x e) refl
     by zero le p rest false t = refl
     by (suc k) le p rest false t = absurd (let before : is_before x e ≡ true = p.0 0 x (omega arith) (omega arith) in cc)
 
--- what is left behind it are those with greater stamps
+-- the entries behind the place are those with greater stamps
 pub rest_is : (count : ℕ) (xs : List Entry) (k : ℕ) → k ≤ length xs → Point (λ (q : Entry). nat_le q.stamp count) xs k → drop k xs ≡ filter (λ (q : Entry). nat_lt count q.stamp) xs
 rest_is count [] zero le p = refl
 rest_is count [] (suc k) le p = absurd (omega (arith, le))
@@ -113,7 +113,7 @@ place_length e (x ∷ xs) = by (is_before x e) (place_length e xs)
     by true rest = omega (arith, rest)
     by false rest = omega arith
 
--- a place that has an entry is one of those that there are
+-- a place that has an entry is within the list
 pub entry_within : (e : Entry) (xs : List Entry) (i : ℕ) → is_entry e (slice_get xs i) ≡ true → i < length xs
 entry_within e [] i t = absurd cc
 entry_within e (x ∷ xs) zero t = omega arith

@@ -1,11 +1,11 @@
--- entries with one more in its place
+-- the entries after one more was put in its place
 use Rattle.std.proofs.Common.{◌≡◌, ◌⊎◌, inl, inr, ◌∷◌, suc, List, [], refl, sym, ap, ◌∙◌, Bool, true, false, cond, slice_get}
 use Rattle.std.specs.List.{AllByRecursion, insert}
 use Rattle.lra_index.specs.declared.entry.Entry.{Entry}
 use Rattle.lra_index.specs.Entries.{In, IsRising, count_before, is_before, is_entry, put_entry, same_entry}
 use Rattle.lra_index.proofs.Orders.{before_next, neither, same_parts}
 
--- where it stands nothing changes
+-- if the entry stands there already, nothing changes
 pub put_there : (e : Entry) (qs : List Entry) → is_entry e (slice_get qs (count_before e qs)) ≡ true → put_entry e qs ≡ qs
 put_there e [] t = absurd cc
 put_there e (q ∷ qs) t = by (put_there e qs) (is_before q e) t
@@ -15,7 +15,7 @@ put_there e (q ∷ qs) t = by (put_there e qs) (is_before q e) t
     by rest true t = ap (λ xs. q ∷ xs) (rest t)
     by rest false t = rw t refl
 
--- elsewhere it is inserted
+-- otherwise it is inserted
 pub put_insert : (e : Entry) (qs : List Entry) → is_entry e (slice_get qs (count_before e qs)) ≡ false → put_entry e qs ≡ insert qs (count_before e qs) e
 put_insert e [] t = refl
 put_insert e (q ∷ qs) t = by (put_insert e qs) (is_before q e) t
@@ -34,12 +34,12 @@ all_put P e (q ∷ qs) at h = by (is_before q e) (same_entry q e) (all_put P e q
     by false true rest = h
     by false false rest = (at, h)
 
--- what comes before the first comes before all
+-- an entry that comes before the first comes before all
 pub before_all : (e q : Entry) (qs : List Entry) → is_before e q ≡ true → AllByRecursion (λ y. is_before q y ≡ true) qs → AllByRecursion (λ y. is_before e y ≡ true) qs
 before_all e q [] t h = tt
 before_all e q (y ∷ ys) t h = (before_next e q y t h.0, before_all e q ys t h.1)
 
--- they are still in order
+-- the entries are still in order
 pub put_rises : (e : Entry) (qs : List Entry) → IsRising qs → IsRising (put_entry e qs)
 put_rises e [] h = (tt, tt)
 put_rises e (q ∷ qs) h = by (is_before q e) refl (put_rises e qs h.1)
@@ -52,7 +52,7 @@ put_rises e (q ∷ qs) h = by (is_before q e) refl (put_rises e qs h.1)
         here true s = h
         here false s = let before = neither q e t s in ((before, before_all e q qs before h.0), h)
 
--- it is one of them, and so are those that were
+-- the new entry is one of them, and so are the earlier entries
 pub put_in : (e : Entry) (qs : List Entry) (x : Entry) → (x ≡ e) ⊎ In x qs → In x (put_entry e qs)
 put_in e [] x (inl s) = inl s
 put_in e [] x (inr i) = absurd i
@@ -66,7 +66,7 @@ put_in e (q ∷ qs) x i = by (put_in e qs x) (is_before q e) (same_entry q e) re
     by rest false true s (inr i) = i
     by rest false false s i = i
 
--- and no other
+-- and there are no others
 pub in_put : (e : Entry) (qs : List Entry) (x : Entry) → In x (put_entry e qs) → (x ≡ e) ⊎ In x qs
 in_put e [] x (inl s) = inl s
 in_put e [] x (inr i) = absurd i

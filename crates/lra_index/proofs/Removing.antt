@@ -1,4 +1,4 @@
--- entries without one
+-- the entries after one was removed
 use Rattle.std.proofs.Common.{◌≡◌, ◌⊎◌, inl, inr, ◌∷◌, suc, List, [], refl, sym, ap, subst, ◌∙◌, Bool, true, false, cond, filter, slice_get}
 use mathlib.Core.Bool.{not}
 use Rattle.std.specs.List.{AllByRecursion, remove}
@@ -7,7 +7,7 @@ use Rattle.lra_index.specs.Entries.{In, IsRising, count_before, is_before, is_en
 use Rattle.lra_index.proofs.Orders.{before_not_same, neither, one_way, same_parts}
 use Rattle.lra_index.proofs.Putting.{before_all}
 
--- e comes before all of these, so it is none of them
+-- e comes before all of these entries, so it is none of them
 none_beyond : (e : Entry) (qs : List Entry) → AllByRecursion (λ q. is_before e q ≡ true) qs → without e qs ≡ qs
 none_beyond e [] h = refl
 none_beyond e (q ∷ qs) h = let other = not_same e q h.0 in rw other (ap (λ xs. q ∷ xs) (none_beyond e qs h.1))
@@ -21,7 +21,7 @@ none_beyond e (q ∷ qs) h = let other = not_same e q h.0 in rw other (ap (λ xs
     not_same : (a b : Entry) → is_before a b ≡ true → same_entry b a ≡ false
     not_same a b t = other_way a b (same_entry b a) refl t
 
--- where it stands it is taken away
+-- if the entry stands at its place, it is removed
 pub remove_there : (e : Entry) (qs : List Entry) → IsRising qs → is_entry e (slice_get qs (count_before e qs)) ≡ true → remove qs (count_before e qs) ≡ without e qs
 remove_there e [] h t = absurd cc
 remove_there e (q ∷ qs) h t = by (remove_there e qs h.1) (is_before q e) refl t
@@ -34,7 +34,7 @@ remove_there e (q ∷ qs) h t = by (remove_there e qs h.1) (is_before q e) refl 
         let none : without e qs ≡ qs = none_beyond e qs (subst (λ (x : Entry). AllByRecursion (λ y. is_before x y ≡ true) qs) same h.0) in
         rw t (sym none)
 
--- elsewhere nothing is
+-- otherwise nothing is removed
 pub remove_none : (e : Entry) (qs : List Entry) → IsRising qs → is_entry e (slice_get qs (count_before e qs)) ≡ false → without e qs ≡ qs
 remove_none e [] h t = refl
 remove_none e (q ∷ qs) h t = by (remove_none e qs h.1) (is_before q e) refl t
@@ -52,7 +52,7 @@ kept_all P t (q ∷ qs) h = by (t q) (kept_all P t qs h.1)
     by true rest = (h.0, rest)
     by false rest = rest
 
--- they are still in order
+-- the entries are still in order
 pub without_rises : (e : Entry) (qs : List Entry) → IsRising qs → IsRising (without e qs)
 without_rises e [] h = tt
 without_rises e (q ∷ qs) h = by (not (same_entry q e)) (without_rises e qs h.1)
@@ -61,7 +61,7 @@ without_rises e (q ∷ qs) h = by (not (same_entry q e)) (without_rises e qs h.1
     by true rest = (kept_all (λ x. is_before q x ≡ true) (λ x. not (same_entry x e)) qs h.0, rest)
     by false rest = rest
 
--- each other one is one of them
+-- each other entry is still one of them
 pub without_in : (e : Entry) (qs : List Entry) (x : Entry) → In x qs → same_entry x e ≡ false → In x (without e qs)
 without_in e [] x i o = absurd i
 without_in e (q ∷ qs) x i o = by (without_in e qs x) (same_entry q e) refl i
@@ -72,7 +72,7 @@ without_in e (q ∷ qs) x i o = by (without_in e qs x) (same_entry q e) refl i
     by rest true s (inl is) = absurd (let here : same_entry x e ≡ same_entry q e = ap (λ (y : Entry). same_entry y e) is in cc)
     by rest true s (inr i) = rest i o
 
--- and no other
+-- and there are no others
 pub in_without : (e : Entry) (qs : List Entry) (x : Entry) → In x (without e qs) → In x qs × (same_entry x e ≡ false)
 in_without e [] x i = absurd i
 in_without e (q ∷ qs) x i = by (in_without e qs x) (same_entry q e) refl i

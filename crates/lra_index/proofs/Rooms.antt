@@ -1,4 +1,4 @@
--- the origins of an index, one by one
+-- the origins of an index, one after the other
 use Rattle.std.proofs.Common.{◌≡◌, ◌≤◌, ◌<◌, ◌+◌, ◌-◌, ◌^◌, ℕ, zero, suc, List, [], ◌∷◌, refl, sym, ap, ◌∙◌, subst, arith, Bool, true, false, cond, IfSome, Option, None, get_or, length}
 use Rattle.std.specs.List.{AllZip}
 use Rattle.lra_id.specs.Ids.{Id, same_id}
@@ -15,18 +15,18 @@ pub entries_length : (os : List HeldEntries) → length (entries_of os) ≡ leng
 entries_length [] = refl
 entries_length (o ∷ os) = ap suc (entries_length os)
 
--- where each has room for so many, the least has
+-- if each origin has room for n entries, so has the least
 pub least_all : (n : ℕ) (os : List HeldEntries) → n ≤ 2 ^ 64 → ((k : ℕ) → k < length os → n ≤ (at_place os k).spare) → n ≤ least_spare os
 least_all n [] most h = most
 least_all n (o ∷ os) most h = omega (arith, h 0 (omega arith), least_all n os most (λ k e. h (suc k) (omega (arith, e))))
 
--- and where the least has, each has
+-- and if the least has the room, each has it
 pub each_least : (n : ℕ) (os : List HeldEntries) → n ≤ least_spare os → (k : ℕ) → k < length os → n ≤ (at_place os k).spare
 each_least n [] h k e = absurd (omega (arith, e))
 each_least n (o ∷ os) h zero e = omega (arith, h)
 each_least n (o ∷ os) h (suc k) e = each_least n os (omega (arith, h)) k (omega (arith, e))
 
--- the least falls by no more than each does
+-- the least room falls by no more than each room does
 pub least_falls : (n : ℕ) (xs ys : List HeldEntries) → length ys ≡ length xs → ((k : ℕ) → k < length xs → (at_place xs k).spare ≤ (at_place ys k).spare + n) → least_spare xs ≤ least_spare ys + n
 least_falls n [] [] e h = omega arith
 least_falls n [] (y ∷ ys) e h = absurd (omega (arith, e))

@@ -2,7 +2,7 @@ use Rattle.std.proofs.Common.{◌≡◌, ◌≤◌, ◌<◌, ◌+◌, ℕ, lengt
 use Rattle.lra_index.specs.Indexes.{IsRestamped, at_place, stamp_at}
 use Rattle.lra_index.proofs.index.reindex_each.Given as goal
 
--- those so far are changed, and the others are as they were
+-- the lists so far are changed, and the others are as they were
 abbrev pub invariant-loop-place : goal.invariant-loop-place
 invariant-loop-place l = record {
   same : length l.origins.items ≡ length l.initial.origins.items;

@@ -2,7 +2,7 @@ use Rattle.std.proofs.Common.{◌≤◌, ◌<◌, ℕ}
 use Rattle.lra_index.specs.Indexes.{AreReserved, at_place}
 use Rattle.lra_index.proofs.index.reserve_each.Given as goal
 
--- those so far have the room, and the others are as they were
+-- the lists so far have the room, and the others are as they were
 abbrev pub invariant-loop-place : goal.invariant-loop-place
 invariant-loop-place l = record {
   kept : AreReserved 0 l.initial.origins.items l.origins.items;
