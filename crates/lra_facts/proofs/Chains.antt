@@ -7,11 +7,11 @@ use Rattle.lra_id.specs.Ids.{Id}
 use Rattle.lra_facts.specs.declared.fact.Fact.{Fact}
 use Rattle.lra_facts.specs.Sets.{begins, parent_named, parent_of, chain_within, chain, depth, NamesEarlier}
 
--- what is left of a list at an element that was read there
+-- the rest of a list from a place on begins with the element that was read there
 pub drop_at : {X : Type 0} (xs : List X) (i : ℕ) (x : X) → i < length xs → x ≡ get_or xs i x → drop i xs ≡ x ∷ drop (i + 1) xs
 drop_at xs i x h e = drop_more xs i x h ∙ ap (λ y. y ∷ drop (i + 1) xs) (sym e)
 
--- the parent that a Begin names has the lesser number
+-- the parent that a Begin names has a lesser number
 begin_lesser : (f : Fact) (l p : Id) → begins l f ≡ true → NamesEarlier f → parent_named f.body ≡ Some p → p.num < l.num
 begin_lesser f l p b h e =
     let named : (p.home ≡ f.origin) × (p.num < f.num) = rw e at h in
@@ -26,7 +26,8 @@ pub parent_lesser : (S : List Fact) (l p : Id) → AllByRecursion NamesEarlier S
 parent_lesser [] l p h e = absurd cc
 parent_lesser (f ∷ S) l p h e = lesser_at f l p (parent_of S l) h.0 (parent_lesser S l p h.1) (begins l f) refl e
 
--- with a lesser parent, or with none, the rest of two chains is alike
+-- the rest of two chains is the same if the functions agree on the parent, which has a lesser
+-- number, or if there is no parent
 pub same_rest : (l : Id) (f g : Id → List Id) (above : Option Id) → ((p : Id) → above ≡ Some p → f p ≡ g p) → option_map_or f above [] ≡ option_map_or g above []
 same_rest l f g None h = refl
 same_rest l f g (Some p) h = h p refl
@@ -35,7 +36,7 @@ no_rest : (f : Id → List Id) (above : Option Id) → ((p : Id) → above ≡ S
 no_rest f None h = refl
 no_rest f (Some p) h = absurd (h p refl)
 
--- more steps than its number change nothing
+-- more steps than the LRA's number change nothing
 pub chain_enough : (S : List Fact) → AllByRecursion NamesEarlier S → (n m : ℕ) (l : Id) → l.num ≤ n → l.num ≤ m → chain_within n S l ≡ chain_within m S l
 chain_enough S h zero zero l a b = refl
 chain_enough S h zero (suc m) l a b =
@@ -54,10 +55,10 @@ chain_is S h l =
     let lesser : p.num < l.num = parent_lesser S l p h e in
     chain_enough S h l.num p.num p (omega arith) (omega arith)))
 
--- a test along the chain, at its first
+-- a test along the chain looks at its first LRA and at the rest
 pub chain_any : (S : List Fact) → AllByRecursion NamesEarlier S → (test : Id → Bool) (l : Id) → list_any test (chain S l) ≡ (test l || list_any test (option_map_or (chain S) (parent_of S l) []))
 chain_any S h test l = ap (list_any test) (chain_is S h l)
 
--- the depth, by that of the parent
+-- the depth is one more than that of the parent
 pub depth_is : (S : List Fact) → AllByRecursion NamesEarlier S → (l : Id) → depth S l ≡ length (option_map_or (chain S) (parent_of S l) []) + 1
 depth_is S h l = omega (arith, ap length (chain_is S h l))

@@ -46,7 +46,8 @@ its_participant_compensates = refl
 so_both_end_cancelled : status (fact 7 (Report (lra 2) 1 Compensate Done) ∷ then_cancelled) (lra 1) ≡ Some Cancelled
 so_both_end_cancelled = refl
 
--- nothing is to be forgotten while the root is active, and a completed participant of a nested LRA is once it is closed
+-- nothing must be forgotten while the root is active; once it is closed, a completed participant of
+-- a nested LRA must be told to forget
 no_duty_yet : is_forget_duty closed_child (lra 2) 1 ≡ false
 no_duty_yet = refl
 
@@ -80,7 +81,7 @@ until_the_last_is_done = refl
 its_first_waits : is_compensation_due (fact 8 (Report (lra 1) 3 Compensate Failed) ∷ saga) (lra 3) 1 ≡ false
 its_first_waits = refl
 
--- Listeners: participants with a link for the end of their LRA alone
+-- Listeners: participants that have only a link for the end of their LRA
 
 abbrev listener : Links
 listener = record { complete = None; compensate = None; status = None; forget = None; after = Some [] }

@@ -1,4 +1,4 @@
--- what was heard, and stamps, in a union
+-- outcomes and stamps in a union of sets
 use Rattle.std.proofs.Common.{◌≡◌, ◌≤◌, ℕ, zero, suc, List, [], ◌∷◌, refl, sym, ap, ◌∙◌, arith, Option, Some, None, max}
 use Rattle.lra_id.specs.Ids.{Id}
 use Rattle.lra_id.specs.States.{level, greater}
@@ -45,13 +45,13 @@ pub level_heard : (S : List Fact) (l : Id) (m : ℕ) (a : Act) → level (heard 
 level_heard [] l m a = refl
 level_heard (f ∷ S) l m a = level_greater (reported l m a f.body) (heard S l m a) ∙ ap (max (level (reported l m a f.body))) (level_heard S l m a)
 
--- of a union, the greater is heard
+-- in a union the greater of the two outcomes is heard
 pub heard_union : (S T U : List Fact) → IsUnion S T U → (l : Id) (m : ℕ) (a : Act) → heard U l m a ≡ greater (heard S l m a) (heard T l m a)
 heard_union S T U u l m a =
     let g : Fact → ℕ = λ f. level (reported l m a f.body) in
     same_level _ _ (level_heard U l m a ∙ most_union g S T U u ∙ sym (level_greater (heard S l m a) (heard T l m a) ∙ (let s = level_heard S l m a in let t = level_heard T l m a in rw (s, t) refl)))
 
--- with more facts no less is heard
+-- if there are more facts, no less is heard
 pub heard_inside : (S T : List Fact) → IsInside S T → (l : Id) (m : ℕ) (a : Act) → level (heard S l m a) ≤ level (heard T l m a)
 heard_inside S T i l m a =
     let g : Fact → ℕ = λ f. level (reported l m a f.body) in

@@ -1,4 +1,4 @@
--- which bytes are kept of a link
+-- which bytes of a link are kept
 use Rattle.std.proofs.Common.{◌≡◌, ◌&&◌, ℕ, List, Bool, true, false, Option, Some, None, cond, refl, sym, ap, ◌∙◌}
 use Rattle.std.specs.Str.{IsUtf8, is_utf8}
 use Rattle.std.proofs.lemmas.Str.{IsUtf8-from_is_utf8, is_utf8-from_IsUtf8}
@@ -25,7 +25,7 @@ one_kept t s link e utf8 kept same =
     let one : is_same (kept_text t) t ≡ true = ap (λ (x : List ℕ). is_same (kept_text x) t) (sym e) ∙ ap (λ (o : Option (List ℕ)). is_same o t) kept ∙ (bytes_eq-Decides link t).1 all in
     ap (λ (x : List ℕ). Some x) all ∙ ap (λ (b : Bool). cond b (Some t) None) (sym (both (is_utf8 t) (is_same (kept_text t) t) (is_utf8-from_IsUtf8 t utf8) one))
 
--- what a link keeps is kept of itself
+-- a link whose kept text is the link itself is kept as it is
 pub kept_is : (t : List ℕ) → IsUtf8 t → kept_text t ≡ Some t → is_kept t ≡ true
 unfolding is_kept
 kept_is t utf8 kept = both (is_utf8 t) (is_same (kept_text t) t) (is_utf8-from_IsUtf8 t utf8) (ap (λ (o : Option (List ℕ)). is_same o t) kept ∙ (bytes_eq-Decides t t).1 refl)

@@ -16,7 +16,7 @@ pub any_gives : {X : Type 0} (p : X → Bool) (xs : List X) → list_any p xs �
 any_gives p [] e = absurd cc
 any_gives p (y ∷ ys) e = pick_any p y ys (p y) refl (any_gives p ys) e
 
--- two tests that hold where the other does are one
+-- two tests that are true together are the same
 pub same_bools : (a b : Bool) → (a ≡ true → b ≡ true) → (b ≡ true → a ≡ true) → a ≡ b
 same_bools true true f g = refl
 same_bools true false f g = sym (f refl)
@@ -32,7 +32,7 @@ pub most_least : {X : Type 0} (g : X → ℕ) (xs : List X) (n : ℕ) → ((x : 
 most_least g [] n h = omega arith
 most_least g (y ∷ ys) n h = omega (arith, h y (inl refl), most_least g ys n (λ x m. h x (inr m)))
 
--- of a union, it is the greater of the two
+-- the greatest number of a union is the greater of those of the two lists
 pub most_union : {X : Type 0} (g : X → ℕ) (xs ys zs : List X) → IsUnion xs ys zs → most g zs ≡ max (most g xs) (most g ys)
 most_union g xs ys zs u =
     let below : most g zs ≤ max (most g xs) (most g ys) =
@@ -55,7 +55,7 @@ or_cases false b e = inr e
 pub any_inside : {X : Type 0} (p : X → Bool) (xs ys : List X) → IsInside xs ys → list_any p xs ≡ true → list_any p ys ≡ true
 any_inside p xs ys s e = let found = any_gives p xs e in any_from p ys found.0 (s found.0 found.1) found.2
 
--- of a union, a test finds one where it finds one in either
+-- a test finds an element of a union exactly if it finds one in either list
 pub any_union : {X : Type 0} (p : X → Bool) (xs ys zs : List X) → IsUnion xs ys zs → list_any p zs ≡ (list_any p xs || list_any p ys)
 any_union p xs ys zs u =
     same_bools (list_any p zs) (list_any p xs || list_any p ys)
@@ -97,7 +97,7 @@ in_append [] ys x h = inr h
 in_append (z ∷ xs) ys x (inl s) = inl (inl s)
 in_append (z ∷ xs) ys x (inr m) = elim (in_append xs ys x m) [ inl l ↦ inl (inr l) | inr r ↦ inr r ]
 
--- tests that agree on each element
+-- tests that agree on each element find one or none alike
 pub any_agree : {X : Type 0} (p q : X → Bool) (xs : List X) → ((x : X) → In x xs → p x ≡ q x) → list_any p xs ≡ list_any q xs
 any_agree p q [] h = refl
 any_agree p q (x ∷ xs) h = let at = h x (inl refl) in let rest : list_any p xs ≡ list_any q xs = any_agree p q xs (λ y m. h y (inr m)) in cc

@@ -19,7 +19,7 @@ parent_at : (f : Fact) (l p : Id) (S T : List Fact) → (parent_of S l ≡ Some 
 parent_at f l p S T rest true e = e
 parent_at f l p S T rest false e = rest e
 
--- a parent that is named stays
+-- a parent that a fact names stays the same
 pub parent_stays : (S later : List Fact) (l p : Id) → parent_of S l ≡ Some p → parent_of (S ++ later) l ≡ Some p
 parent_stays [] later l p e = absurd cc
 parent_stays (f ∷ S) later l p e = parent_at f l p S (S ++ later) (parent_stays S later l p) (begins l f) e
@@ -28,7 +28,7 @@ rest_in : (f g : Id → List Id) (a : Id) (above more : Option Id) → ((p : Id)
 rest_in f g a None more stays goes m = absurd m
 rest_in f g a (Some p) more stays goes m = let at = stays p refl in rw at (goes p refl m)
 
--- and so does what is in a chain
+-- and an LRA in a chain stays in it
 pub in_chain_stays : (S later : List Fact) (n : ℕ) (l a : Id) → In a (chain_within n S l) → In a (chain_within n (S ++ later) l)
 in_chain_stays S later zero l a m = m
 in_chain_stays S later (suc n) l a (inl s) = inl s
@@ -41,7 +41,7 @@ in_front [] ys x m = absurd m
 in_front (y ∷ xs) ys x (inl s) = inl s
 in_front (y ∷ xs) ys x (inr m) = inr (in_front xs ys x m)
 
--- an LRA of whose chain one is cancelled wants Cancel, whatever comes later
+-- an LRA that has a cancelled LRA in its chain wants Cancel, whatever comes later
 pub cancel_stays : (S later : List Fact) (a l : Id) → In a (chain S l) → is_decided S Cancel a ≡ true → want (S ++ later) l ≡ Some Cancel
 cancel_stays S later a l m e =
     let T : List Fact = S ++ later in
@@ -49,7 +49,7 @@ cancel_stays S later a l m e =
     let found : list_any (is_decided T Cancel) (chain T l) ≡ true = any_from (is_decided T Cancel) (chain T l) a (in_chain_stays S later l.num l a m) decided in
     rw found refl
 
--- the greater of outcomes, in any grouping
+-- the greater of outcomes is the same in any grouping
 pub greater_assoc : (a b c : Option Outcome) → greater (greater a b) c ≡ greater a (greater b c)
 greater_assoc None b c = refl
 greater_assoc (Some Busy) None c = refl
@@ -75,13 +75,13 @@ greater_assoc (Some Done) (Some Failed) None = refl
 greater_assoc (Some Done) (Some Failed) (Some c) = refl
 greater_assoc (Some Failed) b c = refl
 
--- of two lists the greater is heard
+-- the outcome that two lists together have heard is the greater of the two
 pub heard_append : (S T : List Fact) (l : Id) (m : ℕ) (act : Act) → heard (S ++ T) l m act ≡ greater (heard S l m act) (heard T l m act)
 heard_append [] T l m act = refl
 heard_append (f ∷ S) T l m act =
     ap (greater (reported l m act f.body)) (heard_append S T l m act) ∙ sym (greater_assoc (reported l m act f.body) (heard S l m act) (heard T l m act))
 
--- a parent is of its child's home
+-- a parent has the same home as its child
 pub parent_home : (S : List Fact) (l p : Id) → AllByRecursion NamesEarlier S → parent_of S l ≡ Some p → p.home ≡ l.home
 parent_home [] l p h e = absurd cc
 parent_home (f ∷ S) l p h e = home_at f l p (parent_of S l) h.0 (parent_home S l p h.1) (begins l f) refl e

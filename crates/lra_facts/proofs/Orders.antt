@@ -23,7 +23,7 @@ use Rattle.lra_facts.proofs.Membership.{any_gives, any_inside, any_agree, same_b
 use Rattle.lra_facts.proofs.Heard.{heard_inside, same_level}
 use Rattle.lra_facts.proofs.Chains.{same_rest}
 
--- a test finds one in both lists or in none
+-- a test finds a fact in both lists or in neither
 pub any_same : (S T : List Fact) → IsSameSet S T → (t : Fact → Bool) → list_any t S ≡ list_any t T
 any_same S T same t = same_bools (list_any t S) (list_any t T) (any_inside t S T same.there) (any_inside t T S same.back)
 
@@ -74,7 +74,7 @@ chain_same_within S T same (suc n) l =
 pub chain_same : (S T : List Fact) → AreNumberedOnce S → IsSameSet S T → (l : Id) → chain S l ≡ chain T l
 chain_same S T once same l = chain_same_within S T (parent_same S T once same) l.num l
 
--- a test along the chain, where the tests agree
+-- tests that agree on each LRA find the same along the chain
 any_chain : (S T : List Fact) → AreNumberedOnce S → IsSameSet S T → (s t : Id → Bool) → ((x : Id) → s x ≡ t x) → (l : Id) → list_any s (chain S l) ≡ list_any t (chain T l)
 any_chain S T once same s t agree l = any_agree s t (chain S l) (λ x m. agree x) ∙ ap (list_any t) (chain_same S T once same l)
 
@@ -169,7 +169,7 @@ unfolding Joined
 joined_at S l m a g rest (Some k) at h = (g, inl refl, at ∙ h)
 joined_at S l m a g rest None at h = let r = rest h in (r.0, inr r.1, r.2)
 
--- the links with which one joined are those of a join in the list
+-- the links of a participant are those of a join in the list
 links_in : (S : List Fact) (l : Id) (m : ℕ) (a : Links) → links_of S l m ≡ Some a → Joined S l m a
 links_in [] l m a e = absurd cc
 links_in (g ∷ S) l m a e = joined_at S l m a g (links_in S l m a) (joined_links l m g.body) refl e

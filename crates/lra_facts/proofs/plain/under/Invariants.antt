@@ -4,7 +4,7 @@ use Rattle.lra_id.specs.Ids.{same_id}
 use Rattle.lra_facts.specs.Sets.{chain}
 use Rattle.lra_facts.proofs.plain.under.Given as goal
 
--- the test comes out as from here on
+-- the test has the same result as from the LRA that was reached
 abbrev pub invariant-above : goal.invariant-above
 invariant-above l = list_any (same_id l.id) (chain l.facts l.fn.inner) ≡ list_any (same_id l.id) (chain l.facts l.at)
 
