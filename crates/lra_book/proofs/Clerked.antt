@@ -1,4 +1,4 @@
--- What a clerk's call comes to, from what its book or its desk did.
+-- The result of a clerk's call, given what its book or its desk did.
 use Rattle.std.proofs.Common.{◌≡◌, ◌+◌, ◌-◌, ◌++◌, ◌∷◌, ◌∙◌, ◌⊎◌, inl, inr, ℕ, List, [], Result, Ok, Err, length, sym, ap, subst, arith, length-append}
 use Rattle.std.specs.Prelude.{IfErr, MatchResult, OnErr, OnOk, slice_get}
 use Rattle.lra_facts.specs.declared.refusal.Refusal.{Refusal}

@@ -1,4 +1,4 @@
--- A close finds nothing strange exactly where each entry and each receipt is there once.
+-- A close finds nothing strange exactly if each entry and each receipt is there once.
 use Rattle.std.proofs.Common.{◌≡◌, ◌+◌, ◌==◌, ◌↔◌, ◌∙◌, ℕ, Bool, true, false, List, [], ◌∷◌, Option, Some, None, if◌then◌else◌, count_by, refl, ap, arith}
 use Rattle.std.proofs.lemmas.Bool.Decides.{nat_tests}
 use Rattle.lra_book.specs.declared.calls.Entry.{Entry}

@@ -30,7 +30,7 @@ under_in S a l e = let found = any_gives (same_id a) (chain S l) e in subst (λ 
 under_goes : (S : List Fact) → AllByRecursion NamesEarlier S → (a l d : Id) → is_under S a l ≡ true → is_under S l d ≡ true → is_under S a d ≡ true
 under_goes S nested a l d e f = any_from (same_id a) (chain S d) a (chain_goes S nested d l a (under_in S l d f) (under_in S a l e)) (same_self a)
 
--- what a participant under an LRA shows, it shows under what the LRA is under
+-- what a participant under an LRA shows, it also shows under every LRA above that
 shown_above : (test : MemberStatus → Bool) (S : List Fact) → AllByRecursion NamesEarlier S → (a l : Id) → is_under S a l ≡ true → some_shows test S l ≡ true → some_shows test S a ≡ true
 shown_above test S nested a l above shown =
     let found = any_gives (λ (f : Fact). shows test S l f.body) S shown in
@@ -38,7 +38,7 @@ shown_above test S nested a l above shown =
     join_shows test S a who.0 who.1 who.2 found.0 found.1 who.3
     (record { under = under_goes S nested a l who.0 above who.4.under; stayed = who.4.stayed; passes = who.4.passes })
 
--- what is under an LRA that is cancelled is cancelled
+-- an LRA that is under a cancelled LRA is cancelled
 cancelled_below : (S : List Fact) → AllByRecursion NamesEarlier S → (a l : Id) → is_under S a l ≡ true → want S a ≡ Some Cancel → want S l ≡ Some Cancel
 cancelled_below S nested a l under wants =
     let decided : list_any (is_decided S Cancel) (chain S a) ≡ true = sym (want_cancels S a) ∙ ap wants_cancel wants in
@@ -46,7 +46,8 @@ cancelled_below S nested a l under wants =
     let there = any_from (is_decided S Cancel) (chain S l) found.0 (chain_goes S nested l a found.0 (under_in S a l under) found.1) found.2 in
     ap (λ (b : Bool). cond b (Some Cancel) (cond (list_any (is_decided S Close) (chain S l)) (Some Close) None)) there
 
--- an LRA shows a failure where a participant failed to compensate, or where it closes and one failed to complete
+-- an LRA shows a failure only if a participant failed to compensate, or if it closes and a
+-- participant failed to complete
 why_failed : (wants : Option Verdict) (ended incomplete uncompensated : Bool) → failed (shown wants ended incomplete uncompensated) ≡ true
     → (uncompensated ≡ true) ⊎ ((wants ≡ Some Close) × (incomplete ≡ true))
 why_failed None e i u is = absurd cc
@@ -57,7 +58,8 @@ why_failed (Some Cancel) false i u is = absurd cc
 why_failed (Some Cancel) true i false is = absurd cc
 why_failed (Some Cancel) true i true is = inl refl
 
--- where a tree ended well, no participant failed to compensate; and none failed to complete, or the root was cancelled
+-- if a tree ended well, no participant failed to compensate; and none failed to complete, or the
+-- root was cancelled
 why_well : (wants : Option Verdict) (ended incomplete uncompensated : Bool) → ended_well (tree_status (shown wants ended incomplete uncompensated) uncompensated) ≡ true
     → (uncompensated ≡ false) × ((wants ≡ Some Cancel) ⊎ (incomplete ≡ false))
 why_well None e i u is = absurd cc

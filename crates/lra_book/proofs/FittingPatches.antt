@@ -1,4 +1,4 @@
--- What a replica has room for is a patch of its view.
+-- A patch for which a replica has room is a patch of its view.
 use Rattle.std.proofs.Common.{Option, Some, None}
 use Rattle.std.specs.Prelude.{IfSome}
 use Rattle.lra_history.specs.Changes.{Change}

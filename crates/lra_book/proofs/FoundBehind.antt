@@ -1,4 +1,4 @@
--- What a start finds behind a call.
+-- What a start finds after a call.
 use Rattle.std.proofs.Common.{◌≡◌, ◌⊎◌, inl, inr, ℕ, IsTrue, arith, subst, sym}
 use Rattle.sqlite.specs.Held.{Held, state}
 use Rattle.sqlite.specs.State.{HasCleanDisk}

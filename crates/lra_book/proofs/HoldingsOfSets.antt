@@ -38,7 +38,7 @@ use Rattle.lra_book.proofs.TreesOfSets.{tree_alike}
 found : (S : List Fact) (a : View) (l : Id) → StandsFor S a → is_held S l ≡ true → record_at a l ≡ Some (record_of (length a.front) S l)
 found S a l stands held = stands_at S a l stands held l refl ∙ ap (λ (b : Bool). cond b (Some (record_of (length a.front) S l)) None) held
 
--- what shows something is held
+-- an LRA that shows something is held
 shows_held : (S : List Fact) (front : List ℕ) (l : Id) (status : LraStatus) → shown_of S front l ≡ Ok status → is_held S l ≡ true
 shows_held S front l status = by (unknown front l) (is_held S l)
   where
@@ -47,7 +47,7 @@ shows_held S front l status = by (unknown front l) (is_held S l)
     by None true e = refl
     by None false e = absurd cc
 
--- the same is shown of the same numbers
+-- two functions that agree on each number show the same statuses
 same_statuses : (f g : ℕ → Result MemberStatus Refusal) → ((m : ℕ) → f m ≡ g m) → (n : ℕ) → statuses_of f n ≡ statuses_of g n
 same_statuses f g same zero = refl
 same_statuses f g same (suc n) =
@@ -71,7 +71,7 @@ record_of_set S a me l settled stands some there = ap (record_reply a me l) (sho
         held_of l status (member_shown_on a l) (member_shown S a.front l) (reply_on a me (Purge l)) (reply_of S a.front me (Purge l)) (record_at a l) (record_of (length a.front) S l)
         (λ m. member_settled S a l m settled stands) (view_law S a me (Purge l) some there settled stands).0 (found S a l stands (shows_held S a.front l status e))
 
--- each row tells what its tree shows by the set, and what the set's record says
+-- each row has what its tree shows by the set, and what the set's record says
 pub rows_of_set : (S : List Fact) (a : View) (after : Option Id) (rows : List Row) → IsSettled S → StandsFor S a → AllByRecursion (IsRow (by_view a) after) rows
     → summaries_of (tree_on a) (record_at a) rows ≡ summaries_of (tree_shows S) (λ l. Some (record_of (length a.front) S l)) rows
 rows_of_set S a after [] settled stands all = refl

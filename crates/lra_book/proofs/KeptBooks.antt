@@ -1,4 +1,4 @@
--- What a book keeps, with one entry more and where a call isn't stored.
+-- What a book keeps, both with one more entry and if a call isn't stored.
 use Rattle.std.proofs.Common.{◌≡◌, ◌⊎◌, inl, inr, ◌≤◌, ◌<◌, ℕ, Bool, Option, Some, true, false, List, [], ◌∷◌, ◌++◌, None, refl, sym, ap, subst, ◌∙◌, ◌&&◌, not, length, arith, length-append}
 use Rattle.std.proofs.lemmas.Bool.Decides.{nat_tests}
 use Rattle.std.specs.Prelude.{IfSome, nat_le, nat_lt}
@@ -36,7 +36,7 @@ not_stored g old b k stopped is same keeps =
       few = is.few;
     }
 
--- where nothing refuses a call at once, there is room for an entry
+-- if nothing refuses a call at once, there is room for an entry
 pub has_room : {S : Type 0} (book : BookState S) (seen : ℕ) (asked : Call) → refusal_at_once book seen asked ≡ None → length book.trail < 1024
 has_room book seen asked free = by (not book.stopped) (nat_le seen (length book.trail)) (nat_lt (length book.trail) 1024) _ refl free
   where
@@ -46,7 +46,7 @@ has_room book seen asked free = by (not book.stopped) (nat_le seen (length book.
     by true true false d e free = absurd cc
     by true true true d e free = grind (arith, nat_tests, e)
 
--- what changes has a patch
+-- a view that changes has a patch
 pub changed_by : {A : Type 0} (patch : Option Change) (old new : View) → new ≡ with_patch patch old → IfSome patch (λ _. A) → (new ≡ old) ⊎ A
 changed_by None old new is stored = inl is
 changed_by (Some change) old new is stored = inr stored

@@ -33,12 +33,13 @@ in_all P [] x all is = absurd is
 in_all P (y ∷ ys) x all (inl here) = subst P (sym here) all.0
 in_all P (y ∷ ys) x all (inr there) = in_all P ys x all.1 there
 
--- what has a row is the first one's, or comes after it
+-- an LRA that has a row is that of the first row, or comes after it
 first_or_after : (r : Row) (rs : List Row) (l : Id) → AreAscending (r ∷ rs) → HasRow (r ∷ rs) l → (r.id ≡ l) ⊎ (IsBefore r.id l × HasRow rs l)
 first_or_after r rs l order (q, inl here, is) = inl (ap (λ (x : Row). x.id) (sym here) ∙ is)
 first_or_after r rs l order (q, inr there, is) = inr (subst (IsBefore r.id) is (in_all (λ (x : Row). IsBefore r.id x.id) rs q order.0 there), (q, there, is))
 
--- The LRAs that a reading tells, beyond one, in so many rows at most: each has a row, or comes after all of so many
+-- The LRAs beyond a given one that a reading lists, in `most` rows at most: each has a row, or
+-- comes after all of `most` rows
 record Runs (t : Reading) (after : Option Id) (most : ℕ) (rows : List Row) : Type 0 where
   order : AreAscending rows
   each : AllByRecursion (IsRow t after) rows
@@ -118,7 +119,7 @@ runs_of t after page is = record { order = is.order; each = is.rows; few = is.fe
 no_row_behind : (rows : List Row) (l : Id) → AreBefore rows l → HasRow rows l → ⊥
 no_row_behind rows l before (r, is_in, same) = never_before_itself l (subst (λ (k : Id). IsBefore k l) same (in_all (λ (x : Row). IsBefore x.id l) rows r before is_in))
 
--- where one says that more follow, so does the other
+-- if one page says that more follow, so does the other
 more_too : (t : Reading) (after : Option Id) (p q : PageRows) → IsPage t after p → IsPage t after q → p.rows ≡ q.rows → p.more ≡ true → q.more ≡ true
 more_too t after p q one other same more =
     let (l, listed, beyond, before) = one.more more in

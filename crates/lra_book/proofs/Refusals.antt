@@ -1,4 +1,4 @@
--- The refusals of a clerk's own.
+-- The refusals that a clerk makes itself.
 use Rattle.std.proofs.Common.{◌≡◌, inl, inr, ℕ, List, Bool, true, false, Option, Some, None, [], ◌∷◌, subst}
 use Rattle.std.specs.Prelude.{nat_le, length}
 use mathlib.Core.Bool.{not}

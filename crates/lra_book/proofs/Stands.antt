@@ -27,11 +27,11 @@ told_front : (t : List Entry) (e : Entry) (r : Receipt) (o : Option Entry) → s
 told_front t e r None is told = absurd cc
 told_front t e r (Some x) is told = ap (λ o. is_told o r) (slice_get-front t e x r.index is) ∙ told
 
--- what stands in a trail stands in it with one entry more
+-- a receipt that stands in a trail still stands in it with one more entry
 stands_front : (t : List Entry) (e : Entry) (r : Receipt) → stands t r ≡ true → stands (t ++ e ∷ []) r ≡ true
 stands_front t e r told = told_front t e r (slice_get t r.index) refl told
 
--- the last entry's own receipt stands
+-- the receipt of the last entry stands
 stands_last : (t : List Entry) (e : Entry) (r : Receipt) → r.index ≡ length t → r.call ≡ e.call → r.reply ≡ e.reply → stands (t ++ e ∷ []) r ≡ true
 stands_last t e r index call reply =
     ap (λ o. is_told o r) (ap (slice_get (t ++ e ∷ [])) index ∙ slice_get-last t e) ∙ rw (call, reply, call_own e.call, reply_own e.reply) refl
@@ -57,7 +57,7 @@ all_stand-push : (t : List Entry) (e : Entry) (rs : List Receipt) (r : Receipt) 
 all_stand-push t e [] r all last = (last, tt)
 all_stand-push t e (x ∷ rs) r all last = (stands_front t e x all.0, all_stand-push t e rs r all.1 last)
 
--- what a look that answers Ok found
+-- what a look that answered Ok has found
 looked : {S : Type 0} (b : BookState S) (seen : ℕ) (rs : List Receipt) → look_of b seen rs ≡ None → AllStand b.trail rs
 looked b seen rs is = by (not b.stopped) (nat_le seen (length b.trail)) (lost_from b.trail None rs) (all_stand b.trail rs) is
   where
@@ -71,7 +71,7 @@ begun_at : (opening : Option View) (v : View) (P : View → Type 0) → opening 
 begun_at None v P is legal = absurd cc
 begun_at (Some w) v P is legal = subst P (let same : w ≡ v = cc in same) legal
 
--- A call after a look that finds all: the trail has each receipt, and ends with the call
+-- After a look that finds all, a call leaves a trail that has each receipt and ends with the call
 pub has_trail : {S : Type 0} (opening : Opening) (old new : BookState S) (seen : ℕ) (rs : List Receipt) (call : Call) (now : ℕ) (r : Receipt) → old.opening ≡ Some opening.view → old.me ≡ opening.node
     → look_of old seen rs ≡ None → IsEntered old seen new call now r → IsLegal new → HasTrail opening (rs ++ r ∷ []) call now r
 has_trail opening old new seen rs call now r begun node look is legal =

@@ -1,4 +1,4 @@
--- What a stop leaves, in a call that commits nothing and in one that commits what another did.
+-- What a stop leaves, both in a call that commits nothing and in one that commits what another did.
 use Rattle.std.proofs.Common.{◌⊎◌, inl, inr, arith, refl}
 use Rattle.sqlite.specs.State.{State, Survives}
 use Rattle.sqlite.specs.Tree.{Trees}

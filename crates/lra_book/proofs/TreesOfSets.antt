@@ -1,4 +1,4 @@
--- What a view shows of trees is what its set does.
+-- What a view shows of trees is what its set shows.
 use Rattle.std.proofs.Common.{◌≡◌, ◌∙◌, Bool, true, false, List, [], ◌∷◌, Option, Some, None, Ok, Err, refl, sym, ap, is_some, length}
 use Rattle.std.specs.Option.{option_map_or}
 use Rattle.lra_id.specs.Ids.{Id}
@@ -23,7 +23,7 @@ use Rattle.lra_history.proofs.Covered.{nested_settled}
 use Rattle.lra_history.proofs.SameReadings.{has_record, stands_at}
 use Rattle.lra_book.specs.Trees.{tree_on, tree_shown_of, tree_shown_on}
 
--- one without a record is Active
+-- an LRA without a record is Active
 none_active : (a : View) (l : Id) → record_at a l ≡ None → tree_on a l ≡ Active
 none_active a l none =
     let at = at_home a l.home in
@@ -31,7 +31,7 @@ none_active a l none =
     let uncompensated = some_shows_at (same_member_status FailedToCompensate) at l.num in
     ap (λ (rs : List Record). tree_status (shown (wanted_by rs) (is_ended_at at l.num) incomplete uncompensated) uncompensated) (up_none MAX_DEPTH at l.num none)
 
--- so one that is refused is
+-- so an LRA that is refused is Active
 pub refused_active : (a : View) (l : Id) (refusal : Refusal) → Err refusal ≡ answered (is_some (record_at a l)) (tree_on a l) → Active ≡ tree_on a l
 refused_active a l refusal is = by (record_at a l) refl is
   where
@@ -39,7 +39,7 @@ refused_active a l refusal is = by (record_at a l) refl is
     by None none e = sym (none_active a l none)
     by (Some r) some e = absurd cc
 
--- of an LRA that is held
+-- the tree that an LRA shows is the set's, if it is held
 pub tree_alike : (S : List Fact) (a : View) (l : Id) → IsSettled S → StandsFor S a → is_held S l ≡ true → tree_on a l ≡ tree_shows S l
 tree_alike S a l settled stands held =
     tree_said (length a.front) S (records_at a.records l.home) l settled.whole (nested_settled S settled) (stands_at S a l stands held) held

@@ -5,6 +5,6 @@ use Rattle.lra_book.specs.Holdings.{summaries_of}
 use Rattle.lra_book.specs.Trees.{tree_on}
 use Rattle.lra_book.proofs.holdings.all_in_short.Given as goal
 
--- those that were pushed, and those of the rows left, make up all
+-- the summaries that were pushed, followed by those of the rows left, are all
 abbrev pub invariant-loop-row : goal.invariant-loop-row
 invariant-loop-row l = l.list.items ++ summaries_of (tree_on (view_of l.replica)) (record_at (view_of l.replica)) (drop l.row-index l.rows) ≡ summaries_of (tree_on (view_of l.replica)) (record_at (view_of l.replica)) l.rows

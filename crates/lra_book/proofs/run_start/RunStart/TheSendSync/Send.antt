@@ -1,4 +1,4 @@
--- It owns nothing, so it may go to another thread.
+-- A `RunStart` owns nothing, so it may go to another thread.
 use denote.Param.Send.{IsSend, owning_send}
 use Rattle.lra_book.specs.contracts.run_start.RunStart.{the_row, the_type}
 

@@ -1,4 +1,4 @@
--- It owns nothing, so threads may share it.
+-- A `RunStart` owns nothing, so threads may share it.
 use denote.Param.Send.{IsSend, IsSync, owning_send, part_keyless}
 use Rattle.lra_book.specs.contracts.run_start.RunStart.{the_row, the_type}
 
