@@ -1,4 +1,4 @@
--- What a node makes of a command, by what was prepared.
+-- The result of a command at a node, given what was prepared.
 use Rattle.std.proofs.Common.{◌≡◌, inl, inr, ℕ, List, Option, None, Some, Ok, Err, sym, ap, subst, ◌∙◌}
 use Rattle.lra_facts.specs.declared.fact.Fact.{Fact}
 use Rattle.lra_facts.specs.declared.refusal.Refusal.{Refusal}
@@ -13,7 +13,7 @@ use Rattle.lra_history.specs.Replies.{Judgement, Denied, AlreadyKnown, Accepted,
 use Rattle.lra_history.specs.Views.{StandsFor, View}
 use Rattle.lra_world.specs.Machines.{Becomes, IsActed}
 
--- with the patch, if there is one, the view becomes what the command asks
+-- with the patch, if there is one, the view becomes what the command asks for
 becomes : (S : List Fact) (old new : View) (me : ℕ) (c : Command) (patch : Option Change) → AddsFact S old me c patch → new ≡ with_patch patch old → Becomes (judge S old.front me c) S old me c new
 becomes S old new me c None known is = subst (λ (j : Judgement). Becomes j S old me c new) (sym known) is
 becomes S old new me c (Some change) (taken, raises, adds) is =
@@ -26,7 +26,7 @@ entered S old new me c p prepared is = (prepared.0, becomes S old new me c p.pat
 pub acted_with : (S : List Fact) (old new : View) (me : ℕ) (c : Command) (p : Prepared) → IsPrepared S old me c (Ok p) → new ≡ with_patch p.patch old → IsActed S old me c p.reply new
 acted_with S old new me c p prepared is = entered S old new me c p prepared is
 
--- what is entered is not refused
+-- a command that is entered is not refused
 never_refused : (S : List Fact) (v : List ℕ) (node : ℕ) (c : Command) (r : Refusal) → accepted S v node c ≡ Refused r → ⊥
 never_refused S v node (Begin parent deadline) r e = absurd cc
 never_refused S v node (Join id links) r e = absurd cc

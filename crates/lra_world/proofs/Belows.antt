@@ -1,4 +1,4 @@
--- A front is below another or it is not.
+-- A front is either below another or not.
 use Rattle.std.proofs.Common.{◌≡◌, ◌⊎◌, inl, inr, ◌≤◌, ◌<◌, ◌-◌, ℕ, zero, suc, List, [], ◌∷◌, refl, Bool, true, false, arith, get_or, length, nat_le}
 use Rattle.std.proofs.lemmas.Bool.Decides.{nat_tests}
 use Rattle.lra_id.specs.Fronts.{IsBelow, count}
@@ -8,7 +8,7 @@ none_past [] i h = refl
 none_past (a ∷ v) zero h = absurd (omega (arith, h))
 none_past (a ∷ v) (suc i) h = none_past v i (omega (arith, h))
 
--- up to a node, or at a node
+-- either no count up to a node is greater, or the count at some node is
 up_to : (v w : List ℕ) (n : ℕ) → ((node : ℕ) → node < n → count v node ≤ count w node) ⊎ ((node : ℕ) × (count w node < count v node))
 up_to v w zero = inl (λ node less. absurd (omega (arith, less)))
 up_to v w (suc n) = elim (up_to v w n) [

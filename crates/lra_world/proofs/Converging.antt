@@ -30,7 +30,7 @@ converged s t events replies world runs =
       rising = statuses_rise s t world kept;
     }
 
--- no event leads from a state to itself
+-- the empty run leads from a state to itself
 pub leads_none : (s : State) → IsWorld s → Leads s s
 leads_none s w = record { world = w; events = []; replies = []; runs = refl }
 
@@ -41,7 +41,7 @@ leads_on s t u events replies led runs =
 pub led_converges : (s t : State) → Leads s t → Converges s t
 led_converges s t led = converged s t led.events led.replies led.world led.runs
 
--- so it holds from whatever state led to a step
+-- so the headline also holds after one more step, whatever state led to it
 pub steps_to : (first s : State) (event : Event) (reply : Reply) (m : Machine) → Leads first s → Happens s event reply m → StepsTo first s event reply m
 steps_to first s event reply m led h =
     record {

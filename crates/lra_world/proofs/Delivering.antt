@@ -1,4 +1,4 @@
--- What a node makes of a frame that comes.
+-- What a node makes of a frame that arrives.
 use Rattle.std.proofs.Common.{◌≡◌, ◌⊎◌, inl, inr, ◌≤◌, ◌<◌, ◌-◌, ◌==◌, ◌&&◌, ℕ, zero, suc, List, [], ◌∷◌, ◌++◌, Result, Ok, Err, refl, sym, ap, subst, ◌∙◌, Bool, true, false, cond, arith, Option, None, Some, get_or-set_other, get_or-set_same, length, nat_le, nat_lt, slice_get, take, drop}
 use Rattle.std.proofs.Math.Seq.{take-length}
 use Rattle.std.proofs.lemmas.List.{append-nil, take-append-drop}
@@ -29,7 +29,7 @@ use Rattle.lra_world.proofs.OneReplicaChanged.{TakesSo, get_some}
 use Rattle.lra_world.proofs.Moving.{kept_joined}
 use Rattle.lra_world.proofs.WorldsStand.{changed_world, still_world, with_so}
 
--- a frame of the state comes to a node of it
+-- a frame of the state arrives at a node of the state
 record IsComing (s : State) (node : ℕ) (frame : SentFrame) (bytes : List ℕ) (a : View) : Type 0 where
   world : IsWorld s
   node_is : IsNode s node
@@ -52,13 +52,13 @@ is_from s node frame bytes a coming =
       counts = coming.encoded.sender.counts;
     }
 
--- what is read of all bytes is the frame, and of fewer nothing is read
+-- all bytes of the frame are read as the frame, and fewer are read as nothing
 is_frame : (v w : Version) (frame read : Frame) (bytes rest : List ℕ) → IsDeltaAs v frame → IsDeltaAs w read → bytes ≡ encoding_as v frame → encoding_as w read ++ rest ≡ bytes → (read ≡ frame) × (rest ≡ [])
 is_frame v w frame read bytes rest rules also encodes e =
     let one = one_delta w v read frame rest [] also rules (e ∙ encodes ∙ sym (append-nil (encoding_as v frame))) in
     (one.1, one.2)
 
--- either nothing changes, or the view is that of the joined front
+-- either nothing changes, or the view becomes that of the joined front
 data Taken (s : State) (node : ℕ) (frame : SentFrame) (bytes : List ℕ) (kept : ℕ) (reply : Reply) (a c : View) : Type 0 where
   Unchanged : c ≡ a → Takes s node frame bytes kept reply s → Taken s node frame bytes kept reply a c
   Changed : IsViewOf s.history (join_fronts (front_of s node) frame.front) c
@@ -75,7 +75,7 @@ takes_frame s node frame bytes kept reply a c coming all takes = elim (below_or_
         × ((IsBelow frame.base (front_of s node) → ⊥) → (reply ≡ Refused (Gap (front_of s node))) × (c ≡ a))
     is = takes s.history (front_of s node) frame.front (is_from s node frame bytes a coming)
 
--- all bytes of a frame: what they encode is that frame
+-- all bytes of a frame arrived: what they encode is that frame
 pub all_read : (v : Version) (f : Frame) (bytes : List ℕ) (reply : Reply) (a c : View) → IsDeltaAs v f → bytes ≡ encoding_as v f → TakesBytes a bytes (length bytes) reply c → TakesFrame a f reply c
 all_read v f bytes reply a c rules encodes (inl more) = absurd (omega (arith, more.0))
 all_read v f bytes reply a c rules encodes (inr (inl cut)) =
@@ -89,7 +89,7 @@ all_read v f bytes reply a c rules encodes (inr (inr read)) =
     let whole : encoding_as is.0 read.1.0 ++ [] ≡ bytes = append-nil (encoding_as is.0 read.1.0) ∙ sym is.2 ∙ take-length bytes in
     subst (λ (d : Frame). TakesFrame a d reply c) (is_frame v is.0 f read.1.0 bytes [] rules is.1 encodes whole).0 read.1.2
 
--- more bytes than there are, fewer, or all
+-- `kept` is more bytes than there are, fewer, or all
 less_or_all : (count kept : ℕ) → (count < kept) ⊎ ((kept < count) ⊎ (kept ≡ count))
 less_or_all count kept = by (nat_lt count kept) (nat_lt kept count) refl refl
   where
@@ -128,7 +128,7 @@ takes_bytes s node frame bytes kept reply a c coming takes = elim (less_or_all (
     beyond more (inr (inl cut)) = absurd (omega (arith, more, cut.0))
     beyond more (inr (inr read)) = absurd (omega (arith, more, read.0))
 
--- where there is such a node
+-- what happens if there is such a node
 pub at_node : (s t : State) (node : ℕ) (happens : Type 0) (reply : Reply) → IsNode s node → happens → IfNode (is_node s node) s happens reply t
 at_node s t node happens reply is h = subst (λ (b : Bool). IfNode b s happens reply t) (sym yes) h
   where
@@ -145,7 +145,7 @@ frame_is s number frame some at = by (number == 0) refl
     by false e = at
     by true e = let zero : number ≡ 0 = grind (arith, nat_tests) in absurd (omega (arith, zero, some))
 
--- so a frame that comes leaves the world of the state after it
+-- so an arriving frame leaves the world of the state after it
 pub delivered_world : (s : State) (old new : Machine) (number node kept : ℕ) (reply : Reply) → IsWorldOf s old → IsNode s node → 1 ≤ number → number - 1 < length old.sent
     → IsChanged old new node (TakesSo old (number - 1) kept reply) → Happens s (Deliver number node kept) reply new
 delivered_world s old new number node kept reply w is some there change =

@@ -45,7 +45,7 @@ sends_once s t u node base version reply other (inr (inr (inr h))) (inr (inl k))
 sends_once s t u node base version reply other (inr (inr (inr h))) (inr (inr (inl k))) = absurd (h.2 k.2)
 sends_once s t u node base version reply other (inr (inr (inr h))) (inr (inr (inr k))) = record { reply_is = h.3 ∙ sym k.3; state_is = h.4 ∙ sym k.4 }
 
--- bytes break a rule at one place
+-- bytes break a rule at one place only
 one_place : (bytes : List ℕ) (place other : ℕ) → frame_in bytes ≡ Err (Fault place) → frame_in bytes ≡ Err (Fault other) → place ≡ other
 one_place bytes place other e f = ap place_of (sym e ∙ f)
   where
@@ -74,7 +74,7 @@ takes_once s t u node frame bytes kept reply other (inr (inr (inr h))) (inr (inl
 takes_once s t u node frame bytes kept reply other (inr (inr (inr h))) (inr (inr (inl k))) = absurd (k.1 h.1)
 takes_once s t u node frame bytes kept reply other (inr (inr (inr h))) (inr (inr (inr k))) = record { reply_is = h.2 ∙ sym k.2; state_is = h.3 ∙ sym k.3 }
 
--- a frame is encoded in one way, in its version
+-- a frame has one encoding in its version
 pub one_encoding : (h : History) (frame : SentFrame) (b c : List ℕ) → IsEncoded h frame b → IsEncoded h frame c → b ≡ c
 one_encoding h frame b c one other =
     one.encodes ∙ ap (λ (v : View). encoding_as frame.version (frame_of v frame.base)) (same_view h frame.front frame.front one.view other.view refl one.sender other.sender) ∙ sym other.encodes
@@ -85,7 +85,7 @@ comes_once s t u node (Some frame) kept reply other h k =
     takes_once s t u node frame k.0 kept reply other
     (subst (λ (b : List ℕ). Takes s node frame b kept reply t) (one_encoding s.history frame h.0 k.0 h.1 k.1) h.2) k.2
 
--- one LRA is overdue with the least number
+-- only one LRA is overdue with the least number
 less_or_more : (a b : ℕ) → (a < b) ⊎ ((b < a) ⊎ (a ≡ b))
 less_or_more a b = by (nat_lt a b) (nat_lt b a) refl refl
   where

@@ -1,4 +1,4 @@
--- What a node makes of a frame that is not taken, and of the bytes of one that it sends.
+-- What a node makes of a frame that is not taken, and of the bytes of a frame that it sends.
 use Rattle.std.proofs.Common.{◌≡◌, ◌∙◌, ℕ, List, Result, Ok, Err, false, Vec, ap, length, subst, sym}
 use Rattle.std.specs.Prelude.{IfOk}
 use Rattle.std.specs.declared.alloc.Global.{Global}
@@ -18,7 +18,8 @@ use Rattle.lra_world.specs.Worlds.{needs_later}
 same_refusal : {X : Type 0} (r s : Refusal) → ◌≡◌ {A = Result X Refusal} (Err r) (Err s) → r ≡ s
 same_refusal r s e = cc
 
--- a frame that is refused: the view does not count its base, since nothing but a lack of memory refuses one of a history
+-- a frame of the history is refused, other than for lack of memory, only because the view does not
+-- count its base
 pub refused_frame : {X : Type 0} (old new : View) (frame : Frame) (r : Refusal)
     → (length frame.front ≡ length old.front → (IsBelow frame.base old.front → ⊥) → ◌≡◌ {A = Result X Refusal} (Err r) (Err (Gap old.front)))
     → ((h : History) (v w : List ℕ) → IsLawful h → IsClosed h v → IsClosed h w → StandsFor (facts h v) old → IsFrame (facts h w) frame.base frame →
@@ -36,7 +37,7 @@ refused_frame {X} old new frame r gap union other same h v w from = (
     nodes : length frame.front ≡ length old.front
     nodes = ap (λ (u : List ℕ). length u) from.counts ∙ from.sender.nodes ∙ sym from.receiver.nodes ∙ ap (λ (u : List ℕ). length u) (sym from.own.counts)
 
--- bytes that encode a frame, and its rules
+-- the bytes encode a frame, which keeps its rules
 pub written_both : (r : Result (Vec ℕ Global) Refusal) (f : Frame) (version : Version) → IfOk r (λ bytes. (needs_later version f ≡ false) × (bytes.items ≡ encoding_as version f)) → IfOk r (λ _. IsDeltaAs version f)
     → IfOk r (λ bytes. (needs_later version f ≡ false) × IsDeltaAs version f × (bytes.items ≡ encoding_as version f))
 written_both (Ok bytes) f version text rules = (text.0, rules, text.1)

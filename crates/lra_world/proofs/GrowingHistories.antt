@@ -1,10 +1,10 @@
--- A history that grows leaves the closed sets as they are.
+-- A history that grows leaves its closed sets as they are.
 use Rattle.std.proofs.Common.{◌≡◌, ◌≤◌, ℕ, List, refl, sym, ◌∙◌, length}
 use Rattle.lra_history.specs.Histories.{Entry, History, IsClosed, facts, with_entry}
 use Rattle.lra_history.proofs.OneMoreEntry.{closed_still, length_with, unmoved}
 use Rattle.lra_world.specs.Worlds.{SentFrame, IsSent}
 
--- what was closed is closed still, and counts the same facts
+-- a front that was closed is still closed, and counts the same facts
 pub record IsGrown (h k : History) : Type 0 where
   pub nodes : length k ≡ length h
   pub closed : (u : List ℕ) → IsClosed h u → IsClosed k u
@@ -29,7 +29,7 @@ grown_more h k m one other =
       same = λ u c. other.same u (one.closed u c) ∙ one.same u c;
     }
 
--- a frame that was sent stays one
+-- a frame that was sent is still one that was sent
 pub sent_still : (h k : History) → IsGrown h k → (frame : SentFrame) → IsSent h frame → IsSent k frame
 sent_still h k grown frame sent =
     record {

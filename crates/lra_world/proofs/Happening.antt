@@ -32,7 +32,7 @@ use Rattle.lra_world.proofs.Converging.{converged, one_step, run_on}
 use Rattle.lra_world.proofs.Moving.{kept_posted}
 use Rattle.lra_world.proofs.WorldsStand.{ActsSo, acted_world, still_world, with_so}
 
--- there is such a node
+-- the node exists
 pub node_there : (s : State) (m : Machine) (node : ℕ) → IsWorldOf s m → 1 ≤ node → nat_le node (length m.replicas) ≡ true → IsNode s node
 node_there s m node w some e = let there : node ≤ length m.replicas = grind (arith, nat_tests) in record { some = some; there = omega (arith, there, w.nodes) }
 
@@ -59,7 +59,7 @@ own_set s m node kept w is at = (
   (w.views node kept is.some at).stands,
 )
 
--- an LRA that is overdue expires
+-- expiring an overdue LRA is what happens
 pub expire_happens : (s : State) (old new : Machine) (node : ℕ) (l : Id) (reply : CommandReply) → IsWorldOf s old → IsNode s node → IsChanged old new node (ActsSo node (Decide l Cancel) reply) → IsExpired s node l (expired l reply) new
 expire_happens s old new node l reply w is change =
     let acted = acted_world s old new node (Decide l Cancel) reply w is change in
@@ -69,7 +69,7 @@ pub tick_happens : (s : State) (new : Machine) (node now : ℕ) (l : Id) (reply 
 tick_happens s new node now l reply is least e =
     (e.0, at_node s e.0 node (Ticks s node now reply e.0) reply is (Some l, least, e.1), e.2)
 
--- what a view answers in each set that it stands for is answered of the node's own set
+-- an answer that a view gives for each set that it stands for is the answer for the node's own set
 pub of_own : {X : Type 0} (s : State) (m : Machine) (node : ℕ) (view : View) (answer : X) (of : List Fact → List ℕ → X) → IsWorldOf s m → 1 ≤ node → node ≤ length m.replicas
     → IsViewOf s.history (front_of s node) view → OfItsSet view (λ S. answer ≡ of S view.front) → answer ≡ of (set_of s node) (front_of s node)
 of_own s m node view answer of w some there is says =
@@ -84,7 +84,7 @@ same_count s t [] (r ∷ replies) h = absurd h
 same_count s t (e ∷ events) [] h = absurd h
 same_count s t (e ∷ events) (r ∷ replies) h = ap suc (same_count h.0 t events replies h.2)
 
--- a run that has come so far: these events are left
+-- a run so far: the events in `left` are still to come
 pub record IsRunning (s : State) (all left : List Event) (replies : List Reply) (m : Machine) : Type 0 where
   pub done : List Event
   pub parted : all ≡ done ++ left
@@ -112,7 +112,7 @@ running_more s all left event replies reply old new r h =
 pub leads : (s t : State) (events : List Event) (replies : List Reply) (m : Machine) → IsWorld s → Runs s events replies t → IsWorldOf t m → LeadsTo s events replies m
 leads s t events replies m world runs w = record { state = t; runs = runs; stands = w; converges = converged s t events replies world runs }
 
--- it stops at an event
+-- the run stops at an event
 pub running_stops : (s : State) (all left : List Event) (event : Event) (replies : List Reply) (m : Machine) → IsWorld s → IsRunning s all (event ∷ left) replies m → StopsIn s all replies m
 running_stops s all left event replies m world r =
     let count = same_count s r.state r.done replies r.runs in
@@ -143,7 +143,7 @@ last_or_old (x ∷ fs) [] f b place frame bytes same at spelt = absurd (omega (a
 last_or_old (x ∷ fs) (y ∷ bs) f b zero frame bytes same at spelt = inl (at, spelt)
 last_or_old (x ∷ fs) (y ∷ bs) f b (suc place) frame bytes same at spelt = last_or_old fs bs f b place frame bytes (omega (arith, same)) at spelt
 
--- a set has one view, so where the version tells its frame no later one is needed
+-- a set has one view, so if the version tells its frame, no later version is needed
 pub needs_none : (s : State) (node : ℕ) (base : List ℕ) (version : Version) (view : View) → IsViewOf s.history (front_of s node) view → needs_later version (frame_of view base) ≡ false → NeedsLater s node base version → ⊥
 needs_none s node base version view own none later =
     let same : later.0 ≡ view = same_view s.history (front_of s node) (front_of s node) later.0 view refl later.1 own in

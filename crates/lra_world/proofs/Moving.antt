@@ -101,7 +101,7 @@ step_moves s t (Tick node now) reply h =
 
 -- Each move leaves a world
 
--- what is kept of a state
+-- what is kept from one state to the next
 pub record IsKeptBy (s t : State) : Type 0 where
   pub world : IsWorld t
   pub grown : IsGrown s.history t.history
@@ -120,7 +120,7 @@ risen_at fronts place new at up other = elim (same_or_not other place) [
   | inr apart ↦ subst (IsBelow (get_or fronts other [])) (sym (get_or-set_other fronts place other new [] apart)) (λ n. omega arith)
 ]
 
--- a node that enters a command that it accepts
+-- a node enters a command that it accepts
 pub kept_entered : (s : State) (node : ℕ) (c : Command) → IsWorld s → IsNode s node → judge (set_of s node) (front_of s node) node c ≡ Accepted → IsKeptBy s (with_command s node c)
 kept_entered s node c w is taken =
     record {
@@ -181,7 +181,7 @@ kept_entered s node c w is taken =
           })
     ]
 
--- a node that joins the front of a frame
+-- a node joins the front of a frame
 pub kept_joined : (s : State) (node : ℕ) (frame : SentFrame) → IsWorld s → IsNode s node → In frame s.sent → IsKeptBy s (with_front s node (join_fronts (front_of s node) frame.front))
 kept_joined s node frame w is m =
     record {
@@ -232,7 +232,7 @@ kept_joined s node frame w is m =
           subst (IsCurrent h n) (sym (get_or-set_other s.fronts (node - 1) (n - 1) both [] apart)) (w.current n some there)
     ]
 
--- a node that sends a frame
+-- a node sends a frame
 pub kept_posted : (s : State) (version : Version) (node : ℕ) (base : List ℕ) → IsWorld s → IsNode s node → length base ≡ nodes_of s → IsBelow base (front_of s node)
     → IsKeptBy s (with_frame s version node base)
 kept_posted s version node base w is nodes below =

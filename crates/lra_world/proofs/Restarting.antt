@@ -1,4 +1,4 @@
--- A view that is taken whole by that of no facts stays as it is.
+-- A view that is taken whole by the view of no facts stays as it is.
 use Rattle.std.proofs.Common.{◌≡◌, ◌-◌, inl, ℕ, zero, suc, List, [], ◌∷◌, refl, sym, ap, subst, ◌∙◌, arith, get_or, length, max, replicate, false}
 use Rattle.std.proofs.lemmas.List.{length-replicate}
 use Rattle.lra_id.specs.Fronts.{IsBelow, join_fronts}
@@ -58,17 +58,17 @@ join_zeros (a ∷ v) = let here : max 0 a ≡ a = omega arith in ap (λ n. n ∷
 pub zeros_stand : (h : History) → StandsFor (facts h (replicate (length h) 0)) (empty_view (length h))
 zeros_stand h = subst (λ (S : List Fact). StandsFor S (empty_view (length h))) (sym (zeros_count_none h)) (empty_stands (length h))
 
--- what stands for the union with no facts is the view itself
+-- a view that stands for the union with no facts is the view itself
 pub joined_none : (h : History) (v : List ℕ) (a b : View) → IsClosed h v → a.front ≡ v → length b.front ≡ length a.front → StandsFor (facts h v) a → StandsFor (facts h (join_fronts (replicate (length h) 0) v)) b → b ≡ a
 joined_none h v a b closed front nodes own joined =
     let same : join_fronts (replicate (length h) 0) v ≡ v = ap (λ (n : ℕ). join_fronts (replicate n 0) v) (sym closed.nodes) ∙ join_zeros v in
     one_view (facts h v) b a nodes (subst (λ (u : List ℕ). StandsFor (facts h u) b) same joined) own
 
--- the front of zeros is below each
+-- the front of zeros is below each front
 pub zeros_below : (n : ℕ) (v : List ℕ) → IsBelow (replicate n 0) v
 zeros_below n v node = omega (arith, zero_at n (node - 1))
 
--- In a lawful history the whole frame of a view comes to the view of no facts
+-- In a lawful history the whole frame of a view can be taken by the view of no facts
 from_none : (h : History) (v : List ℕ) (own : View) → IsLawful h → IsClosed h v → IsViewOf h v own → IsFrom h (replicate (length h) 0) v (empty_view (length h)) (frame_of own (replicate (length h) 0))
 from_none h v own lawful closed is =
     record {
@@ -95,7 +95,7 @@ taken_again h v zeros bytes own fresh new n reply lawful closed is nodes none em
     let same : join_fronts (replicate (length h) 0) v ≡ v = ap (λ (k : ℕ). join_fronts (replicate k 0) v) (sym closed.nodes) ∙ join_zeros v in
     (took.0, joined_none h v own new closed is.counts (ap (λ (u : List ℕ). length u) (took.1.counts ∙ same ∙ sym is.counts)) is.stands took.1.stands)
 
--- the same by what a sender's bytes are in each lawful history
+-- the same, given what a sender's bytes are in each lawful history
 pub retaken : (zeros items bytes nodes_front : List ℕ) (own fresh new : View) (nodes len vec : ℕ) (reply : Reply)
     → ((h : History) (v : List ℕ) → IsLawful h → IsClosed h v → IsViewOf h v own → IsBelow zeros v × (needs_later Two (frame_of own zeros) ≡ false) × IsDelta (frame_of own zeros) × (items ≡ encoding (frame_of own zeros)))
     → nodes ≡ length nodes_front → nodes_front ≡ own.front → zeros ≡ replicate nodes 0 → fresh ≡ empty_view nodes → bytes ≡ items → length bytes ≡ vec → len ≡ vec
@@ -106,7 +106,7 @@ retaken zeros items bytes nodes_front own fresh new nodes len vec reply sends co
     taken_again h v zeros bytes own fresh new nodes reply lawful closed is (count ∙ ap (λ (u : List ℕ). length u) front) none empty sent.2 (same ∙ sent.3)
     (subst (λ (k : ℕ). TakesBytes fresh bytes k reply new) (whole ∙ sym many) takes)
 
--- The frame since nothing brings all back
+-- The frame since nothing brings everything back
 pub comes_back : (h : History) (v : List ℕ) (view : View) → IsLawful h → IsClosed h v → IsViewOf h v view → IsTyped (whole_of view) → ComesBack view
 comes_back h v view lawful closed is typed =
     record {

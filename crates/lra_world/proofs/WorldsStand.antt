@@ -33,7 +33,7 @@ encoded_still : (h k : History) (frame : SentFrame) (bytes : List ℕ) → IsGro
 encoded_still h k frame bytes grown closed is =
     record { view = is.view; sender = view_still h k frame.front is.view grown closed is.sender; rules = is.rules; encodes = is.encodes }
 
--- one replica is the view of what its node holds then, and nothing else is changed
+-- one replica is changed to the view of what its node then holds, and nothing else is changed
 pub changed_world : (s t : State) (old new : Machine) (node : ℕ) → IsWorldOf s old → IsKeptBy s t → t.sent ≡ s.sent → IsNode s node
     → ((n : ℕ) → 1 ≤ n → (n ≡ node → ⊥) → front_of t n ≡ front_of s n)
     → IsChanged old new node (λ was now. IsViewOf t.history (front_of t node) (view_of now)) → IsWorldOf t new
@@ -73,7 +73,7 @@ changed_world s t old new node w kept sent is others c =
           (view_still s.history t.history (front_of s n) (view_of k) kept.grown (w.world.current n some node_there).closed (w.views n k some was))
     ]
 
--- what holds anyway holds where there is an error
+-- a property that always holds also holds in case of an error
 pub on_err : {T E P : Type 0} (r : Result T E) → P → OnErr r P
 on_err (Ok x) p = tt
 on_err (Err e) p = p
@@ -91,14 +91,14 @@ still_world s old new node w is c =
       so = subst (λ (v : View). IsViewOf s.history (front_of s node) v) (sym c.so) (w.views node c.was is.some c.at);
     })
 
--- with another fact about the change
+-- the same change with another fact known about it
 pub with_so : {P Q : ReplicaState → ReplicaState → Type 0} (old new : Machine) (node : ℕ) (c : IsChanged old new node P) → Q c.was c.now → IsChanged old new node Q
 with_so old new node c so = record { was = c.was; now = c.now; at = c.at; replicas = c.replicas; sent = c.sent; so = so }
 
 abbrev pub ActsSo : ℕ → Command → CommandReply → ReplicaState → ReplicaState → Type 0
 ActsSo node c reply was now = (S : List Fact) → IsSettled S → StandsFor S (view_of was) → IsActed S (view_of was) node c reply (view_of now)
 
--- a node that enters a command that it accepts
+-- a node enters a command that it accepts
 entered_world : (s : State) (old new : Machine) (node : ℕ) (c : Command) (P : ReplicaState → ReplicaState → Type 0) (change : IsChanged old new node P) → IsWorldOf s old → IsNode s node → judge (set_of s node) (front_of s node) node c ≡ Accepted
     → (change.now.front ≡ raised (front_of s node) node) → ((T : List Fact) → IsMore (next_fact (set_of s node) (front_of s node) node c) (set_of s node) T → StandsFor T (view_of change.now)) → IsWorldOf (with_command s node c) new
 entered_world s old new node c P change w is taken raises adds =
@@ -143,7 +143,7 @@ plain_world s old new node c reply P change w is front acted = (
       (subst (λ (u : List ℕ). Becomes (judge (set_of s node) u node c) (set_of s node) (view_of change.was) node c (view_of change.now)) front acted.1),
 )
 
--- a node that makes of a command what the definitions say
+-- a node does with a command what the definitions say
 pub acted_world : (s : State) (old new : Machine) (node : ℕ) (c : Command) (reply : CommandReply) → IsWorldOf s old → IsNode s node → IsChanged old new node (ActsSo node c reply) → (reply ≡ reply_at s node c) × IsWorldOf (after_command s node c) new
 acted_world s old new node c reply w is change =
     let view = w.views node change.was is.some change.at in

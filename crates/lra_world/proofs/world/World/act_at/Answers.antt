@@ -12,7 +12,7 @@ use Rattle.lra_world.proofs.OneReplicaChanged.{changed_at}
 use Rattle.lra_world.proofs.WorldsStand.{ActsSo}
 use Rattle.lra_world.proofs.world.World.act_at.Goals as goal
 
--- the replica at the node's place is changed so
+-- the replica at the node's place is changed in this way
 changed : (c : goal.After-self-1) (So : ReplicaState → ReplicaState → Type 0) → So c.index_mut.result.now c.act.new.replica
     → IsChanged c.args.self.now (record { replicas = slice_set c.self.inside.replicas.items (c.from-place.result - 1) c.act.new.replica; sent = bytes_of c.self.inside.frames.items }) c.args.node So
 changed c So so =
@@ -25,7 +25,7 @@ changed c So so =
     (changed_at (record { replicas = c.self.inside.replicas.items; sent = bytes_of c.self.inside.frames.items }) (c.from-place.result - 1) c.args.node
     c.index_mut.result.now c.act.new.replica So place there c.index_mut.ensures.value so)
 
--- what is acted in each settled set is so of the reply there is
+-- what holds for each settled set holds of the reply
 acted_so : (c : goal.After-self-1) → IfOk c.act.result (λ reply. ActsSo c.args.node c.args.command reply c.index_mut.result.now c.act.new.replica)
 acted_so c = by c.act.result c.act.ensures.acted
   where

@@ -7,7 +7,7 @@ use Rattle.lra_world.specs.Machines.{Happens, IsWorldOf, Machine}
 use Rattle.lra_world.specs.Worlds.{State}
 use Rattle.lra_world.proofs.world.World.step_on.Goals as goal
 
--- what was kept is the reply of what happened
+-- the reply that was kept is that of what happened
 ok_kept : {X : Type 0} (s : State) (event : Event) (m : Machine) (old new : List Reply) (kept : Result X AllocError) (reply : Result Reply AllocError)
     → IfOk reply (λ one. IsOk kept × (new ≡ old ++ one ∷ [])) → OnErr reply (IsErr kept × (new ≡ old)) → IfOk reply (λ one. Happens s event one m)
     → OnOk kept ((one : Reply) × Happens s event one m × (new ≡ old ++ one ∷ []))
