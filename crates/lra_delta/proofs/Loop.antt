@@ -47,7 +47,7 @@ stops item next taken (Fault place) prefix left more s r total k h so_far =
     let one : with_prefix prefix (each_at item next left s r) ≡ Err (Broken place taken) = rw (k, h) refl in
     sym so_far ∙ one
 
--- the state of a loop that has `n` items left to read
+-- the state of a loop that has `left` items still to read
 abbrev pub SoFar : {S A : Type 0} → (S → Rest → Read A) → (S → A → S) → ℕ → S → Seen → List A → ℕ → S → Seen → Type 0
 SoFar item next count start old prefix left s now =
     (now.first ≡ old.first)
