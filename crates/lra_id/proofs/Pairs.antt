@@ -96,7 +96,7 @@ in_front (x ∷ xs) n (suc k) = in_front xs n k
 pub kept_count : (a : Inside) → IsPadded a → (k : ℕ) → get_or (counts_of a) k 0 ≡ get_or a.counts k 0
 kept_count a h k = sym (ap (λ r. get_or r k 0) h.rest ∙ in_front (take a.nodes a.counts) (8 - a.nodes) k)
 
--- the count of the paired fronts at a node is the pair of the two counts there
+-- the count of the paired fronts at a place is f of the two counts there
 pair_count : (f : ℕ → ℕ → ℕ) → f 0 0 ≡ 0 → (v w : List ℕ) → length v ≡ length w → (k : ℕ) → get_or (pairwise f v w) k 0 ≡ f (get_or v k 0) (get_or w k 0)
 pair_count f none [] [] e k = sym none
 pair_count f none [] (b ∷ w) e k = absurd cc
@@ -136,7 +136,7 @@ join_none : (v : List ℕ) → join_fronts v [] ≡ v
 join_none [] = refl
 join_none (a ∷ v) = refl
 
--- beyond its nodes each front counts zeros
+-- the join of fronts that are filled up with zeros is their join filled up with zeros
 join_filled : (v w : List ℕ) (m n k : ℕ) → length v + m ≡ length w + n → k + max (length v) (length w) ≡ length v + m
     → join_fronts (v ++ replicate m 0) (w ++ replicate n 0) ≡ join_fronts v w ++ replicate k 0
 join_filled [] [] zero zero zero e l = refl

@@ -1,4 +1,5 @@
--- what a call that asks to act says of its participant, and a call of one of which something is due
+-- what a call that asks to act says of its participant, and the call of a participant of which
+-- something is due
 use Rattle.std.proofs.Common.{◌≡◌, inl, inr, ◌&&◌, ℕ, List, refl, ap, ◌∙◌, Bool, true, false, cond, Option, Some, None, is_some}
 use mathlib.Core.Bool.{not}
 use Rattle.std.specs.List.{list_any}
@@ -26,14 +27,14 @@ use Rattle.lra_callback.specs.CallDuties.{is_owed}
 use Rattle.lra_callback.proofs.DutiesMade.{IsCalled, to_compensate, to_complete}
 use Rattle.lra_progress.specs.Calls.{IsActUnder, asks_to_act}
 
--- Participants, by what is wanted and heard
+-- Participants, given what is wanted and heard of them
 
--- what was heard of an act
+-- the outcome that was heard of an act
 abbrev pub heard_of : Act → Option Outcome → Option Outcome → Option Outcome
 heard_of CompleteAct a b = a
 heard_of CompensateAct a b = b
 
--- one that is asked for an act, and has not ended it, is open
+-- a participant that is asked for an act, and has not ended it, is open
 pub asked_open : (w : Option Verdict) (links : Links) (act : Act) (a b : Option Outcome) → demands w links act ≡ true → is_pending (heard_of act a b) ≡ true → is_open (status_by w links a b) ≡ true
 asked_open None links CompleteAct a b e p = absurd cc
 asked_open None links CompensateAct a b e p = absurd cc
@@ -54,7 +55,7 @@ asked_open (Some Cancel) links CompensateAct a b e p = let given : is_some links
     by (Some Done) p = absurd cc
     by (Some Failed) p = absurd cc
 
--- one that has ended it is final
+-- a participant that has ended the act it is asked for is final
 pub asked_final : (w : Option Verdict) (links : Links) (act : Act) (a b : Option Outcome) → demands w links act ≡ true → is_pending (heard_of act a b) ≡ false → is_open (status_by w links a b) ≡ false
 asked_final None links CompleteAct a b e p = absurd cc
 asked_final None links CompensateAct a b e p = absurd cc
@@ -75,7 +76,8 @@ asked_final (Some Cancel) links CompensateAct a b e p = let given : is_some link
     by (Some Done) p = refl
     by (Some Failed) p = refl
 
--- one that is open where something is wanted is asked for the act that is wanted, and has not ended it
+-- a participant that is open although something is wanted is asked for the wanted act, and has not
+-- ended it
 pub open_closing : (links : Links) (a b : Option Outcome) → is_open (status_by (Some Close) links a b) ≡ true → (is_some links.complete ≡ true) × (is_pending a ≡ true)
 open_closing links a b e = by (is_some links.complete) a e
   where
@@ -112,7 +114,7 @@ pub record IsAsked (S : List Fact) (l : Id) (m : ℕ) (act : Act) : Type 0 where
   pub demanded : is_demanded S l m act ≡ true
   pub pending : is_pending (heard S l m act) ≡ true
 
--- what has a topmost cancelled LRA wants Cancel
+-- an LRA that has a topmost cancelled LRA wants Cancel
 pub cancels : (S : List Fact) (l a : Id) → topmost_cancelled S l ≡ Some a → want S l ≡ Some Cancel
 cancels S l a top = let some : list_any (is_decided S Cancel) (chain S l) ≡ true = last_some (is_decided S Cancel) (chain S l) a top in rw some refl
 
@@ -152,11 +154,11 @@ owed_due S Status CompensateAct l m asks e = and_left (is_compensation_due S l m
 owed_due S Forget act l m asks e = absurd cc
 owed_due S After act l m asks e = absurd cc
 
--- the participant of such a call
+-- the participant of such a call is asked for its act
 pub call_asked : (S : List Fact) (l : Id) (call : Duty) → IsActUnder S l call → IsAsked S call.id call.member call.act
 call_asked S l call due = due_asked S call.id call.member call.act (owed_due S call.kind call.act call.id call.member due.asks due.duty.owed)
 
--- a participant of which it is due is called
+-- a participant of which the act is due is called
 pub call_due : (S : List Fact) (l : Id) (act : Act) (d : Id) (m : ℕ) → d.home ≡ l.home → is_held S d ≡ true → is_under S l d ≡ true → is_due S act d m ≡ true → (call : Duty) × IsActUnder S l call
 call_due S l act d m home held under due = by act due
   where

@@ -1,4 +1,4 @@
--- a node that counts all that each other counted before counts all that was ever entered
+-- a node that counts all that every other node counted before counts all that was ever entered
 use Rattle.std.proofs.Common.{◌≡◌, inl, inr, ◌≤◌, ◌<◌, ◌+◌, ◌-◌, ℕ, zero, suc, List, [], ◌∷◌, refl, sym, ap, subst, ◌∙◌, arith, get_or, length}
 use Rattle.lra_id.specs.Fronts.{IsBelow, count}
 use Rattle.lra_facts.specs.Lists.{IsInside}
@@ -14,7 +14,7 @@ use Rattle.lra_world.proofs.Moving.{IsKeptBy, run_keeps}
 use Rattle.lra_progress.specs.Rounds.{IsRound, all_counted}
 use Rattle.lra_progress.proofs.Hearing.{hears_below, still_node}
 
--- lists of one length with the same numbers at each place are one
+-- lists of the same length with the same number at each place are equal
 same_list : (v w : List ℕ) → length v ≡ length w → ((i : ℕ) → i < length v → get_or v i 0 ≡ get_or w i 0) → v ≡ w
 same_list [] [] e h = refl
 same_list [] (b ∷ w) e h = absurd (omega (arith, e))
@@ -32,7 +32,7 @@ all_length : (h : History) → length (all_counted h) ≡ length h
 all_length [] = refl
 all_length (es ∷ h) = omega (arith, all_length h)
 
--- in the end each node counts what each other counted before
+-- in the end each node counts what every other node counted before
 abbrev pub AllHear : State → State → Type 0
 AllHear s t = (from to : ℕ) → IsNode s from → IsNode s to → (from ≡ to → ⊥) → IsBelow (front_of s from) (front_of t to)
 
@@ -60,7 +60,7 @@ counts_all s t node world kept still hear is =
         subst (λ (k : ℕ). get_or (front_of t node) k 0 ≡ get_or (all_counted t.history) k 0) place
         (counts from some there ∙ sym (all_at t.history (from - 1)))
 
--- and without that stillness, all that was entered before
+-- and even if something was entered since, it counts all that was entered before
 pub brings : (s t : State) → IsWorld s → IsKeptBy s t → AllHear s t → (node from : ℕ) → IsNode s node → IsNode s from → length (entries_of s.history from) ≤ count (front_of t node) from
 brings s t world kept hear node from is giver =
     let had = (world.current from giver.some giver.there).own in
@@ -72,7 +72,7 @@ brings s t world kept hear node from is giver =
       | inr other ↦ hear from node giver is other from
     ]
 
--- so any two of them took the same
+-- so any two of the nodes took the same facts
 pub took_all : (s t : State) (one other : ℕ) → IsWorld s → IsKeptBy s t → t.history ≡ s.history → AllHear s t → IsNode s one → IsNode s other → TookTheSame t one other
 took_all s t one other world kept still hear is too =
     record {

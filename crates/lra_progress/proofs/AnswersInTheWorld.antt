@@ -1,4 +1,4 @@
--- answers that a node of the world hears, until the tree is purged
+-- answers that a node of the world receives, until the tree is purged
 use Rattle.std.proofs.Common.{◌≡◌, ◌≤◌, ◌<◌, ◌+◌, ℕ, List, [], ◌∷◌, sym, ap, subst, ◌∙◌, true, arith, length, Some, is_none}
 use Rattle.lra_id.specs.Ids.{Id}
 use Rattle.lra_id.specs.declared.outcome.Verdict.{Verdict}
@@ -25,7 +25,7 @@ pub record IsDecidedAt (s : State) (node : ℕ) (root : Id) (verdict : Verdict) 
   pub top : is_root (set_of s node) root ≡ true
   pub wants : want (set_of s node) root ≡ Some verdict
 
--- a state later
+-- a later state
 module _ (s t : State) (node : ℕ) (root : Id) (verdict : Verdict) (at : IsDecidedAt s node root verdict) (kept : IsKeptBy s t) where
   there : IsNode t node
   there = still_node s t node kept at.there

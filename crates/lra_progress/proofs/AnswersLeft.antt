@@ -1,4 +1,4 @@
--- how many answers are left to wait for under an LRA
+-- the number of answers that are still to come under an LRA
 use Rattle.std.proofs.Common.{◌≡◌, filter, inl, inr, ◌≤◌, ◌<◌, ◌&&◌, ℕ, List, [], ◌∷◌, refl, sym, ap, subst, ◌∙◌, Bool, true, false, cond, arith, is_some, length, Option, Some, None}
 use mathlib.Core.Bool.{not}
 use Rattle.std.specs.Option.{option_map_or}
@@ -30,7 +30,7 @@ use Rattle.lra_progress.proofs.OpenUnder.{Fades, act_falls, call_open, count_few
 use Rattle.lra_progress.proofs.ActsAsked.{call_asked}
 use Rattle.lra_progress.proofs.UnderWay.{links_joined}
 
--- What a call that is no act says of its participant
+-- What a call other than to act says of its participant
 
 pub owed_forget : (S : List Fact) (act : Act) (d : Id) (m : ℕ) → is_owed S Forget act d m ≡ true → is_forget_duty S d m ≡ true
 owed_forget S act d m e = and_left (is_forget_duty S d m) _ e
@@ -49,7 +49,7 @@ after_untold S d m links joined e =
     let owes : owes_after S d m links ≡ true = sym (ap (λ o. option_map_or (owes_after S d m) o false) joined) ∙ and_right (is_participant S d m) _ e in
     and_right (is_at_end S d) _ owes
 
--- it was not told before
+-- the participant was not told to forget before
 pub forget_known : (S : List Fact) (d : Id) (m : ℕ) → is_forget_duty S d m ≡ true → has_forgot S d m ≡ false
 forget_known S d m e = by (links_of S d m) (and_right (is_participant S d m) _ e)
   where
@@ -111,7 +111,7 @@ module _ (h : History) (v w : List ℕ) (g : IsGrown h v w) (l : Id) (x : Verdic
         count_fewer h v w g l x wanted later is_untold_by (untold_fades h v w g l),
       )
 
-  -- one that was told to forget
+  -- the count falls for a participant that was told to forget
   forget_falls : (d : Id) (m : ℕ) → is_under (facts h v) l d ≡ true → is_forget_duty (facts h v) d m ≡ true → has_forgot (facts h w) d m ≡ true → answers_left (facts h w) l < answers_left (facts h v) l
   forget_falls d m under due told =
       let S = facts h v in
@@ -135,7 +135,7 @@ module _ (h : History) (v w : List ℕ) (g : IsGrown h v w) (l : Id) (x : Verdic
       never true false e = absurd cc
       never false false e = absurd cc
 
-  -- one that was told of the end
+  -- the count falls for a participant that was told of the end
   after_falls : (d : Id) (m : ℕ) → is_under (facts h v) l d ≡ true → is_after_duty (facts h v) d m ≡ true → has_told (facts h w) d m ≡ true → answers_left (facts h w) l < answers_left (facts h v) l
   after_falls d m under due told =
       let S = facts h v in
@@ -187,9 +187,9 @@ module _ (h : History) (v w : List ℕ) (g : IsGrown h v w) (l : Id) (x : Verdic
           (owed_after (facts h v) call.act call.id call.member (ap (λ (k : Kind). is_owed (facts h v) k call.act call.id call.member) (sym e) ∙ hears.due.duty.owed))
           (ap (λ (k : Kind). is_answered k (facts h w) call.id call.member call.act) (sym e) ∙ hears.answered)
 
--- Where no answer is left, nobody is called
+-- If no answer is left, nobody is called
 
--- what is counted is there
+-- an element that passes the test makes the count at least 1
 seen : {X : Type 0} (p : X → Bool) (xs : List X) (y : X) → In y xs → p y ≡ true → 1 ≤ length (filter p xs)
 seen p [] y i e = absurd i
 seen p (z ∷ xs) y (inl s) e = here (p z) (ap p (sym s) ∙ e)

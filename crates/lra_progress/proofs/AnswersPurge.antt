@@ -1,4 +1,5 @@
--- answer after answer, each to a call that is due, leads to where the root can be purged
+-- one answer after another, each to a call that is due, leads to a state in which the root can be
+-- purged
 use Rattle.std.proofs.Common.{◌≡◌, ◌⊎◌, inl, inr, ◌||◌, ◌≤◌, ◌<◌, ◌+◌, ℕ, zero, suc, List, [], ◌∷◌, refl, sym, ap, subst, ◌∙◌, Bool, true, false, arith, Some, is_some, nat_lt}
 use mathlib.Core.Bool.{not}
 use Rattle.lra_id.specs.Ids.{Id, last_number, same_id}
@@ -42,7 +43,7 @@ use Rattle.lra_progress.proofs.UntilPurged.{goes_on}
 judged_so : (a b c d e n : Bool) (p q r s t : Refusal) → a ≡ true → b ≡ true → c ≡ true → d ≡ true → e ≡ false → n ≡ true → judged (first (unless a p ∷ unless b q ∷ unless c r ∷ unless (d || e) s ∷ [])) e (unless n t) ≡ Accepted
 judged_so a b c d e n p q r s t ea eb ec ed ee en = rw (ea, eb, ec, ed, ee, en) refl
 
--- it is accepted
+-- the answer is accepted
 accepted : (S : List Fact) (v : List ℕ) (node : ℕ) (root : Id) (call : Duty) → IsCounted S v → IsCallUnder S root call → count v node < last_number → judge S v node (answer_to call.kind call.id call.member call.act) ≡ Accepted
 accepted S v node root call counted due free = by call.kind refl
   where
@@ -73,7 +74,7 @@ accepted S v node root call counted due free = by call.kind refl
         (judged_so (is_covered v call.id) (is_held S call.id) (is_participant S call.id call.member) (is_after_duty S call.id call.member) (has_told S call.id call.member) (nat_lt (count v node) last_number) _ _ _ _ _
         here due.duty.held (and_left (is_participant S call.id call.member) _ is) is (after_known S call.id call.member is) (number_free v node free))
 
--- then the call has its answer, and the root is held still
+-- then the call has its answer, and the root is still held
 known : (k : Kind) (node num : ℕ) (l : Id) (m : ℕ) (act : Act) (S T : List Fact) → IsMore (record { origin = node; num = num; body = body_for S (answer_to k l m act) }) S T → is_answered k T l m act ≡ true
 known Complete node num l m act S T more = ap not (heard_done node num l m act S T more)
 known Compensate node num l m act S T more = ap not (heard_done node num l m act S T more)
@@ -90,9 +91,9 @@ held_still Status node num l m act S T root more settled held = held_kept _ S T 
 held_still Forget node num l m act S T root more settled held = held_kept _ S T more settled.whole refl root (held_begun S root held) ∙ held
 held_still After node num l m act S T root more settled held = held_kept _ S T more settled.whole refl root (held_begun S root held) ∙ held
 
--- Answer after answer
+-- One answer after another
 
--- what is decided and held can be purged after so many
+-- a root that is decided and held can be purged after n answers
 abbrev Purges : ℕ → ℕ → Id → Verdict → Type 0
 Purges n node root verdict =
     (s : State) → IsDecidedAt s node root verdict → is_held (set_of s node) root ≡ true → answers_left (set_of s node) root ≤ n → count (front_of s node) node + n < last_number → CanPurge s node root n
@@ -161,7 +162,7 @@ pub can_purge : (s : State) (root : Id) (verdict : Verdict) → IsWorld s → Is
 can_purge s root verdict world is held top wants free =
     purges_by (answers_left (set_of s root.home) root) root verdict s (record { world = world; there = is; top = top; wants = wants }) held (omega arith) free
 
--- and one answer more can be heard, where somebody is to be called
+-- and one more answer can come, if somebody is to be called
 pub can_answer : (s : State) (node : ℕ) (root : Id) (call : Duty) → IsWorld s → IsNode s node → IsCallUnder (set_of s node) root call → count (front_of s node) node < last_number → (t : State) × GetsAnswered node root s t
 can_answer s node root call world is due free =
     let c = answer_to call.kind call.id call.member call.act in

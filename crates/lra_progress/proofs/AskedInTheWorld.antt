@@ -1,4 +1,4 @@
--- what a participant is asked at nodes of the world
+-- what a participant is asked for at nodes of the world
 use Rattle.std.proofs.Common.{◌≡◌, ◌↔◌, ℕ, List, sym, ap, subst, ◌∙◌, true, false, arith, length, Some}
 use Rattle.lra_id.specs.Ids.{Id}
 use Rattle.lra_id.specs.declared.outcome.Act.{Act}
@@ -41,7 +41,7 @@ closed_at s node world is = (world.current node is.some is.there).closed
 pub settled_at : (s : State) (node : ℕ) → IsWorld s → IsNode s node → IsSettled (set_of s node)
 settled_at s node world is = closed_settled s.history world.lawful (front_of s node) (closed_at s node world is)
 
--- it grows
+-- the node's set grows
 pub grown_at : (s t : State) (node : ℕ) → IsWorld s → IsKeptBy s t → IsNode s node → IsGrown t.history (front_of s node) (front_of t node)
 grown_at s t node world kept is =
     record {
@@ -51,7 +51,7 @@ grown_at s t node world kept is =
       below = kept.risen node is;
     }
 
--- what is said of it is said of the earlier facts of the later history
+-- a property of the node's set is one of the earlier facts in the later history
 pub as_before : (P : List Fact → Type 0) (s t : State) (node : ℕ) → IsWorld s → IsKeptBy s t → IsNode s node → P (set_of s node) → P (facts t.history (front_of s node))
 as_before P s t node world kept is holds = subst P (sym (earlier_set s t node world kept is)) holds
 
@@ -71,13 +71,13 @@ asked_at s node l m act world is asked =
     (subst (λ (d : Id). IsAsked (set_of s node) d asked.call.member asked.call.act) asked.due.lra
     (asked_by (set_of s node) node asked.call (settled_at s node world is) asked.due.due asked.asks)))
 
--- none is asked to act in what has ended
+-- no participant of an LRA that has ended is asked to act
 unasked_at : (s : State) (node : ℕ) (l : Id) (m : ℕ) (act : Act) → IsWorld s → IsNode s node → is_ended (set_of s node) l ≡ true → IsAskedFor s node l m act → ⊥
 unasked_at s node l m act world is ended asked =
     ended_unasked (set_of s node) node asked.call (settled_at s node world is) asked.due.due asked.asks
     (subst (λ (d : Id). is_ended (set_of s node) d ≡ true) (sym asked.due.lra) ended)
 
--- the LRA of a call
+-- the LRA of a call is begun
 begun_at : (s : State) (node : ℕ) (l : Id) (m : ℕ) (call : Duty) → IsCallTo s node l m call → is_begun (set_of s node) l ≡ true
 begun_at s node l m call due = subst (λ (d : Id). is_begun (set_of s node) d ≡ true) due.lra (held_begun (set_of s node) call.id due.due.held)
 
@@ -88,7 +88,7 @@ owed_at s node l m kind called =
     (subst (λ (n : ℕ). is_owed (set_of s node) kind called.call.act called.call.id n ≡ true) called.due.member
     (subst (λ (k : Kind). is_owed (set_of s node) k called.call.act called.call.id called.call.member ≡ true) called.so called.due.due.owed))
 
--- It goes one way
+-- A participant is asked in one direction only
 
 pub way_compensated : (s t : State) (events : List Event) (replies : List Reply) (one other : ℕ) (l : Id) (m : ℕ) → IsWorld s → Runs s events replies t → IsNode s one → IsNode t other → IsAskedFor s one l m Compensate → IsAskedFor t other l m Complete → ⊥
 way_compensated s t events replies one other l m world runs is at was asked =

@@ -1,4 +1,4 @@
--- what a participant is asked, with more facts
+-- what a participant is asked for, if there are more facts
 use Rattle.std.proofs.Common.{◌≡◌, inl, inr, ◌≤◌, ◌&&◌, ℕ, List, sym, ap, subst, ◌∙◌, refl, true, false, arith, Option, Some, None, is_some, nat_lt}
 use Rattle.std.specs.Option.{option_map_or}
 use Rattle.std.proofs.lemmas.Bool.Decides.{nat_tests}
@@ -46,11 +46,11 @@ own_call S node call settled duty asks =
 pub asked_by : (S : List Fact) (node : ℕ) (call : Duty) → IsSettled S → IsDuty node S call → asks_to_act call.kind ≡ true → IsAsked S call.id call.member call.act
 asked_by S node call settled duty asks = call_asked S call.id call (own_call S node call settled duty asks)
 
--- none is asked to act in what has ended
+-- no participant of an LRA that has ended is asked to act
 pub ended_unasked : (S : List Fact) (node : ℕ) (call : Duty) → IsSettled S → IsDuty node S call → asks_to_act call.kind ≡ true → is_ended S call.id ≡ true → ⊥
 ended_unasked S node call settled duty asks ended = ended_uncalled S call.id call settled ended (own_call S node call settled duty asks)
 
--- one that is asked for an act is of an LRA that wants it
+-- a participant that is asked for an act is of an LRA that wants it
 pub asked_close : (S : List Fact) (l : Id) (m : ℕ) → IsAsked S l m Complete → want S l ≡ Some Close
 asked_close S l m asked = by (links_of S l m) asked.demanded
   where
@@ -75,7 +75,8 @@ asked_cancel S l m asked = by (links_of S l m) asked.demanded
     by None e = absurd cc
     by (Some links) e = cancels (want S l) links e
 
--- of one that is to forget the root has ended, and of one that is to hear of the end its LRA is at its end
+-- if a participant is to forget, its root has ended; if it is to hear of the end, its LRA is at its
+-- end
 pub forget_over : (S : List Fact) (l : Id) (m : ℕ) → (is_participant S l m && option_map_or (owes_forget S l m) (links_of S l m) false) ≡ true → is_over S l ≡ true
 forget_over S l m e = by (links_of S l m) (and_right (is_participant S l m) _ e)
   where
@@ -92,7 +93,7 @@ after_end S l m e = by (links_of S l m) (and_right (is_participant S l m) _ e)
 
 -- More facts
 
--- an act that has ended stays so
+-- an act that has ended stays ended
 still_ended : (a b : ℕ) → a ≤ b → nat_lt a 2 ≡ false → nat_lt b 2 ≡ true → ⊥
 still_ended a b le e f = grind (arith, nat_tests, le, e, f)
 
@@ -113,22 +114,22 @@ module _ (h : History) (v w : List ℕ) (g : IsGrown h v w) where
   abbrev T : List Fact
   T = facts h w
 
-  -- what wants Cancel does for ever
+  -- an LRA that wants Cancel wants it for ever
   pub cancel_stays : (l : Id) → want S l ≡ Some Cancel → want T l ≡ Some Cancel
   cancel_stays l wants =
       no_more (want T l) (subst (λ (o : Option Verdict). force o ≤ force (want T l)) wants (wants_more h v w g l (wanted_begun h g.lawful v g.before l Cancel wants)))
 
-  -- so one that was to compensate is not to complete
+  -- so a participant that was to compensate is never asked to complete
   pub never_back : (l : Id) (m : ℕ) → IsAsked S l m Compensate → IsAsked T l m Complete → ⊥
   never_back l m was is =
       let wrong : Some Cancel ≡ Some Close = sym (cancel_stays l (asked_cancel S l m was)) ∙ asked_close T l m is in
       cc
 
-  -- and one that has ended an act is not asked for it
+  -- and a participant that has ended an act is not asked for it again
   pub never_again : (l : Id) (m : ℕ) (act : Act) → is_pending (heard S l m act) ≡ false → IsAsked T l m act → ⊥
   never_again l m act ends is = still_ended (level (heard S l m act)) (level (heard T l m act)) (heard_inside S T (facts_inside h v w g.below) l m act) ends is.pending
 
-  -- what has ended, and wants the same, has ended with more facts
+  -- an LRA that has ended, and still wants the same, has ended with more facts too
   pub ended_later : (l : Id) (x : Verdict) → want S l ≡ Some x → want T l ≡ Some x → is_ended S l ≡ true → is_ended T l ≡ true
   ended_later l x wanted later ended =
       let shut : some_shows is_open S l ≡ false = not_false _ (and_right (is_some (want S l)) _ ended) in
@@ -138,7 +139,7 @@ module _ (h : History) (v w : List ℕ) (g : IsGrown h v w) where
   ended_wants : (l : Id) → is_ended S l ≡ true → (x : Verdict) × (want S l ≡ Some x)
   ended_wants l ended = some_is (want S l) (and_left (is_some (want S l)) _ ended)
 
-  -- one of a root that has ended has ended for ever
+  -- an LRA under a root that has ended has ended for ever
   pub over_later : (l : Id) → is_begun S l ≡ true → is_over S l ≡ true → is_ended T l ≡ true
   over_later l begun over =
       let found = any_gives (λ (a : Id). is_root S a && is_ended S a) (chain S l) over in
@@ -150,7 +151,7 @@ module _ (h : History) (v w : List ℕ) (g : IsGrown h v w) where
       let chained : In a (chain T l) = subst (λ (c : List Id). In a c) (kept_chain h v w g l begun) found.1 in
       ended_under T a l (closed_settled h g.lawful w g.after) (in_under T a l chained) later
 
-  -- what a decided root has under it wants the same
+  -- an LRA under a decided root keeps wanting the same
   decided_wants : (l : Id) → is_begun S l ≡ true → is_root_decided S l ≡ true → want S l ≡ want T l
   decided_wants l begun decided =
       let found = any_gives (λ (a : Id). is_root S a && is_some (want S a)) (chain S l) decided in
@@ -159,7 +160,7 @@ module _ (h : History) (v w : List ℕ) (g : IsGrown h v w) where
       let later = root_wants h v w g a (and_left (is_root S a) _ found.2) y.0 y.1 in
       kept_want h v w g a y.0 y.1 later l begun (subst (λ (c : List Id). In a c) (kept_chain h v w g l begun) found.1)
 
-  -- what is at its end has ended for ever
+  -- an LRA that is at its end has ended for ever
   pub end_later : (l : Id) → is_begun S l ≡ true → is_at_end S l ≡ true → is_ended T l ≡ true
   end_later l begun end =
       let ended = and_left (is_ended S l) _ end in

@@ -21,7 +21,7 @@ use Rattle.lra_progress.specs.Calls.{IsActUnder, asks_to_act}
 abbrev pub call_of : List Fact → Kind → Act → Id → ℕ → List ℕ → Duty
 call_of S kind act d m link = record { kind = kind; act = act; id = d; member = m; link = link; parent = parent_of S d; shows = shown_for S kind d }
 
--- it is called so, by a call under l
+-- a call under l asks this participant for the act
 pub record IsCalledUnder (S : List Fact) (l d : Id) (m : ℕ) (act : Act) : Type 0 where
   pub kind : Kind
   pub link : List ℕ
@@ -58,7 +58,7 @@ called S l d m links act kind who asks owed given =
       };
     }
 
--- the link for its status
+-- the link for the participant's status is given
 status_given : (S : List Fact) (d : Id) (m : ℕ) (links : Links) (act : Act) → links_of S d m ≡ Some links → asks_status S d m act ≡ true → is_some links.status ≡ true
 status_given S d m links act joined e =
     sym (ap (λ (o : Option Links). option_map_or (λ (x : Links). is_some x.status) o false) joined) ∙ and_right (is_busy (heard S d m act)) _ e

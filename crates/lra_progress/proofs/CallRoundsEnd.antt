@@ -29,7 +29,7 @@ use Rattle.lra_progress.proofs.OpenUnder.{ended_none, facts_fewer, join_told, to
 use Rattle.lra_progress.proofs.SagasAlone.{alone_before}
 use Rattle.lra_progress.proofs.UnderWay.{closing_alone, in_under, root_alone, under_in}
 
--- those that are to compensate are open
+-- at most as many participants are to compensate as are open
 pub few_at : (s : State) (node : ℕ) (l : Id) → compensations_left (set_of s node) l ≤ open_under (set_of s node) l
 few_at s node l =
     facts_fewer s.history (front_of s node) (front_of s node) (λ (f : Fact). joins_under (is_open_at (set_of s node)) (set_of s node) l f.body) (λ (f : Fact). joins_under (is_to_compensate (set_of s node)) (set_of s node) l f.body)
@@ -43,7 +43,7 @@ few_at s node l =
       }),
     ))
 
--- where none is open, it has ended
+-- if none is open, the LRA has ended
 ended_at : (s : State) (node : ℕ) (l : Id) (verdict : Verdict) → want (set_of s node) l ≡ Some verdict → open_under (set_of s node) l ≤ 0 → is_ended (set_of s node) l ≡ true
 ended_at s node l verdict wanted none = (ended_none (set_of s node) l (ap is_some wanted)).1 (omega (arith, none))
 
@@ -56,7 +56,7 @@ pub begun_still : (s t : State) (node : ℕ) (l : Id) → IsWorld s → IsKeptBy
 begun_still s t node l world kept is begun =
     begun_later t.history (front_of s node) (front_of t node) (grown_at s t node world kept is) l (as_before (λ (S : List Fact). is_begun S l ≡ true) s t node world kept is begun)
 
--- no less is wanted
+-- no less is wanted later
 wants_later : (s t : State) (node : ℕ) (l : Id) → IsWorld s → IsKeptBy s t → IsNode s node → is_begun (set_of s node) l ≡ true → force (want (set_of s node) l) ≤ force (want (set_of t node) l)
 wants_later s t node l world kept is begun =
     subst (λ (S : List Fact). force (want S l) ≤ force (want (set_of t node) l)) (earlier_set s t node world kept is)
@@ -67,13 +67,13 @@ under_still s t node l d world kept is begun under =
     let same = kept_chain t.history (front_of s node) (front_of t node) (grown_at s t node world kept is) d (as_before (λ (S : List Fact). is_begun S d ≡ true) s t node world kept is begun) in
     in_under (set_of t node) l d (subst (λ (c : List Id). In l c) same (under_in (facts t.history (front_of s node)) l d (as_before (λ (S : List Fact). is_under S l d ≡ true) s t node world kept is under)))
 
--- what waits for none but those under itself did before
+-- an LRA that waits only for those under itself did so before
 alone_still : (s t : State) (node : ℕ) (l : Id) (verdict : Verdict) → IsWorld s → IsKeptBy s t → IsNode s node → want (set_of s node) l ≡ Some verdict → saga_of (set_of t node) l ≡ l → saga_of (set_of s node) l ≡ l
 alone_still s t node l verdict world kept is wants alone =
     subst (λ (S : List Fact). saga_of S l ≡ l) (earlier_set s t node world kept is)
     (alone_before t.history (front_of s node) (front_of t node) (grown_at s t node world kept is) l verdict (as_before (λ (S : List Fact). want S l ≡ Some verdict) s t node world kept is wants) alone)
 
--- what wants the same at both ends does between
+-- an LRA that wants the same at both ends wants it in between
 squeezed : (x : Verdict) (o : Option Verdict) → force (Some x) ≤ force o → force o ≤ force (Some x) → o ≡ Some x
 squeezed Close None low high = absurd (omega (arith, low))
 squeezed Close (Some Close) low high = refl
@@ -105,7 +105,7 @@ left_at s t node l verdict world is wants later round =
 
 -- Some rounds
 
--- they are one run
+-- some rounds are one run
 as_run : (s : State) (ts : List State) (node : ℕ) (l : Id) → GoInRounds node l s ts → (events : List Event) × (replies : List Reply) × Runs s events replies (last_state s ts)
 as_run s [] node l on = ([], [], refl)
 as_run s (t ∷ ts) node l on =
@@ -141,7 +141,7 @@ rounds_left s t (u ∷ ts) node l verdict world is wants last on =
     let kept = kept_round s t node l world on.0 in
     rounds_left t u ts node l verdict kept.world (still_node s t node kept is) (wants_between s t (u ∷ ts) node l verdict world is on wants last) last on.1
 
--- so an LRA that waits for none but those under itself ends
+-- so an LRA that waits only for those under itself ends
 pub saga_ends : (s : State) (ts : List State) (node : ℕ) (l : Id) (verdict : Verdict) → IsWorld s → IsNode s node → want (set_of s node) l ≡ Some verdict → want (set_of (last_state s ts) node) l ≡ Some verdict → saga_of (set_of (last_state s ts) node) l ≡ l → GoInRounds node l s ts → 1 ≤ length ts → compensations_left (set_of s node) l ≤ length ts
     → is_ended (set_of (last_state s ts) node) l ≡ true
 saga_ends s [] node l verdict world is wants last alone on some most = absurd (omega (arith, some))

@@ -1,4 +1,4 @@
--- after a round of calls at most as many are open as were to compensate, less one
+-- after a round of calls, at most one less are open than were to compensate
 use Rattle.std.proofs.Common.{◌≡◌, inl, inr, ◌≤◌, ◌<◌, ◌-◌, ◌&&◌, ℕ, zero, suc, List, [], ◌∷◌, refl, sym, ap, subst, ◌∙◌, Bool, true, false, cond, arith, filter, is_some, length, Option, Some, None}
 use mathlib.Core.Bool.{not}
 use Rattle.std.specs.List.{list_any, AllByRecursion}
@@ -43,7 +43,7 @@ use Rattle.lra_progress.proofs.UnderWay.{ended_under, in_under, links_joined, sa
 clash : (b : Bool) → b ≡ true → b ≡ false → ⊥
 clash b e f = let wrong : true ≡ false = sym e ∙ f in cc
 
--- one that is counted is there
+-- an element that is counted is in the list
 one_kept : {X : Type 0} (p : X → Bool) (xs : List X) → 1 ≤ length (filter p xs) → (x : X) × In x xs × (p x ≡ true)
 one_kept p [] e = absurd (omega (arith, e))
 one_kept {X} p (x ∷ xs) e = by (p x) refl e (one_kept p xs)
@@ -64,7 +64,7 @@ purge_is a (Report d m act outcome) e = absurd cc
 purge_is a (Forgot d m) e = absurd cc
 purge_is a (Told d m) e = absurd cc
 
--- an LRA that was to end, and isn't held any more, had ended
+-- an LRA that was to end, and isn't held any more, has ended
 module _ (h : History) (lawful : IsLawful h) (v : List ℕ) (cv : IsClosed h v) where
   abbrev S : List Fact
   S = facts h v
@@ -91,7 +91,7 @@ module _ (h : History) (lawful : IsLawful h) (v : List ℕ) (cv : IsClosed h v) 
           ended_under S found.0 l (closed_settled h lawful v cv) (in_under S found.0 l found.1) (purged_ended found.0 purge.0 purge.1 purge.2)
       by false e = absurd (clash (is_held S l) (both_true (is_begun S l) _ (wanted_begun h lawful v cv l x wanted) (ap not e)) gone)
 
--- One that is to compensate
+-- A participant that is to compensate
 
 due_parts : (S : List Fact) (d : Id) (m : ℕ) → is_compensation_due S d m ≡ true → (is_participant S d m ≡ true) × (is_uncompensated S d m ≡ true)
 due_parts S d m e = by (topmost_cancelled S d) e
@@ -100,7 +100,7 @@ due_parts S d m e = by (topmost_cancelled S d) e
     by None f = absurd cc
     by (Some a) f = (and_left (is_participant S d m) _ f, and_left (is_uncompensated S d m) _ (and_right (is_participant S d m) _ f))
 
--- what wants Cancel has a topmost cancelled LRA
+-- an LRA that wants Cancel has a topmost cancelled LRA
 pub top_of : (S : List Fact) (d : Id) → want S d ≡ Some Cancel → (a : Id) × (topmost_cancelled S d ≡ Some a)
 top_of S d cancel = by (topmost_cancelled S d) refl
   where
@@ -113,7 +113,7 @@ top_of S d cancel = by (topmost_cancelled S d) refl
     by None top = absurd (never (list_any (is_decided S Cancel) (chain S d)) (list_any (is_decided S Close) (chain S d)) (last_none (is_decided S Cancel) (chain S d) top) cancel)
     by (Some a) top = (a, top)
 
--- and that is under an LRA that waits for none but those under itself
+-- and that LRA is under an LRA that waits only for those under itself
 pub top_under : (S : List Fact) → AllByRecursion NamesEarlier S → (l d a : Id) → saga_of S l ≡ l → is_under S l d ≡ true → topmost_cancelled S d ≡ Some a → is_under S l a ≡ true
 top_under S nested l d a alone under top = by (topmost_cancelled S l) refl
   where
@@ -135,7 +135,7 @@ top_under S nested l d a alone under top = by (topmost_cancelled S l) refl
         let one : l ≡ a = same l a (sym (topmost_below S nested l it (suc d.num) d (omega arith) under) ∙ top) in
         subst (λ (x : Id). is_under S l x ≡ true) one (under_self S nested l)
 
--- One of those is called
+-- One of these participants is called
 
 record IsOneToEnd (S : List Fact) (l : Id) : Type 0 where
   d : Id
@@ -232,7 +232,7 @@ one_to_end S l settled held alone some =
 abbrev pub AllCompensate : List Fact → Id → Type 0
 AllCompensate T l = (f : Fact) (d : Id) (m : ℕ) (links : Links) → In f T → f.body ≡ Join d m links → IsTold (is_open_at T) T l d m links → wants_cancel (want T d) ≡ true
 
--- under one that has ended none is open
+-- under an LRA that has ended, no participant is open
 pub none_told : (T : List Fact) (l : Id) → is_ended T l ≡ true → (f : Fact) (d : Id) (m : ℕ) (links : Links) → In f T → f.body ≡ Join d m links → IsTold (is_open_at T) T l d m links → ⊥
 none_told T l ended f d m links there body told =
     clash (some_shows is_open T l)
@@ -246,19 +246,19 @@ module _ (h : History) (v w : List ℕ) (g : IsGrown h v w) (l : Id) (x : Verdic
   after : IsSettled (facts h w)
   after = closed_settled h g.lawful w g.after
 
-  -- no participant is to compensate that was not
+  -- no participant is to compensate that was not to do so before
   compensations_fade : Fades h v w is_to_compensate l
   compensations_fade = λ d m links begun under e.
       both_true (is_open_at (facts h v) d m links) _
       (open_fades h v w g l x wanted later d m links begun under (and_left (is_open_at (facts h w) d m links) _ e))
       (ap wants_cancel (kept_want h v w g l x wanted later d begun under) ∙ and_right (is_open_at (facts h w) d m links) _ e)
 
-  -- one that joined under l joined before
+  -- a participant that joined under l joined before
   pub had_joined : (f : Fact) (d : Id) (m : ℕ) (links : Links) → In f (facts h w) → f.body ≡ Join d m links → is_under (facts h w) l d ≡ true → In f (facts h v)
   had_joined f d m links there body under =
       entered_before h g.lawful v w g.before g.after l x wanted f there d (ap (asks_active d) body ∙ same_self d) (under_in (facts h w) l d under)
 
-  -- so one that completes, and is open after the round, was to be called
+  -- so a participant that completes, and is open after the round, was to be called
   was_called : (f : Fact) (d : Id) (m : ℕ) (links : Links) → In f (facts h w) → f.body ≡ Join d m links → IsTold (is_open_at (facts h w)) (facts h w) l d m links → is_held (facts h v) l ≡ true → want (facts h w) d ≡ Some Close → IsCalledUnder (facts h v) l d m Complete
   was_called f d m links there body told held close =
       complete_call (facts h v) l d m links (record {
@@ -301,7 +301,7 @@ module _ (h : History) (v w : List ℕ) (g : IsGrown h v w) (l : Id) (x : Verdic
       demanded =
           ap (λ (o : Option Links). option_map_or (λ (y : Links). demands (want (facts h v) d) y Complete) o false) joined ∙ ap (λ (o : Option Verdict). demands o links Complete) closes ∙ has.0
 
-  -- after the round one that is open is to compensate
+  -- a participant that is open after the round is to compensate
   open_compensates : HearsAllEnds (facts h v) (facts h w) l → is_held (facts h v) l ≡ true → (f : Fact) (d : Id) (m : ℕ) (links : Links) → In f (facts h w) → f.body ≡ Join d m links → IsTold (is_open_at (facts h w)) (facts h w) l d m links → wants_cancel (want (facts h w) d) ≡ true
   open_compensates all held f d m links there body told = by (want (facts h w) d) refl
     where
@@ -314,7 +314,7 @@ module _ (h : History) (v w : List ℕ) (g : IsGrown h v w) (l : Id) (x : Verdic
           (ap (λ (o : Option Verdict). is_open (status_by o links (heard (facts h w) d m Complete) (heard (facts h w) d m Compensate))) (sym e) ∙ told.passes) in
           absurd (clash (is_pending (heard (facts h w) d m Complete)) has.1 (all (call_of (facts h v) call.kind Complete d m call.link) call.is))
 
-  -- also where the LRA was gone
+  -- the same even if the LRA was gone
   pub all_compensate : HearsAllEnds (facts h v) (facts h w) l → AllCompensate (facts h w) l
   all_compensate all = λ f d m links there body told. by (is_held (facts h v) l) refl f d m links there body told
     where

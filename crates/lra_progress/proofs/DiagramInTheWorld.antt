@@ -1,4 +1,4 @@
--- what nodes show of an LRA, by the diagram
+-- what nodes show of an LRA, compared with the diagram
 use Rattle.std.proofs.Common.{◌≡◌, inl, inr, ◌≤◌, ℕ, List, [], ◌∷◌, refl, sym, ap, ◌∙◌, Bool, true, false, cond, arith, Option, None, Some, Result, Ok, Err, is_none}
 use Rattle.std.specs.Option.{option_map_or}
 use Rattle.lra_id.specs.Fronts.{is_covered}
@@ -30,7 +30,7 @@ use Rattle.lra_progress.proofs.Hearing.{still_node}
 
 -- What is shown of an LRA
 
--- a set shows it so
+-- the set shows this status of the LRA
 record IsShown (S : List Fact) (l : Id) (a : LraStatus) : Type 0 where
   held : is_held S l ≡ true
   now : shows_now S l ≡ a
@@ -51,7 +51,7 @@ shown_by S v l a e = by (first (unknown v l ∷ gone_by (by_facts S) l ∷ [])) 
 rank_is : (S : List Fact) (l : Id) (a : LraStatus) → IsShown S l a → rank_in S l ≡ rank a
 rank_is S l a is = ap (λ (b : Bool). rank_of (cond b (Some (shows_now S l)) None)) is.held ∙ ap rank is.now
 
--- by the branch, what it wants
+-- the branch of a status tells what the LRA wants
 closes : (o : Option Verdict) (e i u : Bool) → is_to_close (shown o e i u) ≡ true → o ≡ Some Close
 closes None e i u s = absurd cc
 closes (Some Close) e i u s = refl
@@ -81,7 +81,7 @@ module _ (h : History) (lawful : IsLawful h) (v w : List ℕ) (cv : IsClosed h v
   back : (is_to_cancel a ≡ true) × (is_to_close b ≡ true) → IsCancelledAbove h v l
   back so = parted h lawful w v cw cv l (shown_close (facts h w) l b is so.1) (shown_cancel (facts h v) l a was so.0)
 
-  -- a root is not on both branches
+  -- a root is never on both branches
   whole : is_root (facts h v) l ≡ true → are_parted a b ≡ false
   whole root = false_from (are_parted a b) (λ e. elim (parted_so a b e) [
     | inl so ↦ root_whole h lawful v w cv cw l root (shown_close (facts h v) l a was so.0) (shown_cancel (facts h w) l b is so.1)
@@ -126,7 +126,7 @@ branch_root = branch_of_root
 pub branch_alone : (s t : State) (events : List Event) (replies : List Reply) (one other : ℕ) (l : Id) (a b : LraStatus) → IsWorld s → Runs s events replies t → IsNode s one → IsNode t other → shown_at s one l ≡ Ok a → shown_at t other l ≡ Ok b → (IsAncestorCancelled t l → ⊥) → are_parted a b ≡ false
 branch_alone = branch_by
 
--- the rank of what one node shows rises
+-- the rank of what one node shows only rises
 rises : (s t : State) (events : List Event) (replies : List Reply) (node : ℕ) (l : Id) (a b : LraStatus) → IsWorld s → Runs s events replies t → IsNode s node → shown_at s node l ≡ Ok a → shown_at t node l ≡ Ok b → rank a ≤ rank b
 rises s t events replies node l a b world runs is before after =
     let kept = run_keeps s t events replies world runs in

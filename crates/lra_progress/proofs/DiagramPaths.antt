@@ -1,4 +1,4 @@
--- paths of the diagram, by the ranks of their ends
+-- paths of the diagram, given the ranks of their ends
 use Rattle.std.proofs.Common.{◌≡◌, ◌⊎◌, inl, inr, ◌≤◌, ◌&&◌, ◌||◌, List, [], ◌∷◌, refl, Bool, true, false, arith}
 use Rattle.lra_id.specs.States.{rank}
 use Rattle.lra_id.specs.declared.status.LraStatus.{LraStatus}
@@ -15,14 +15,14 @@ here a = ([], refl)
 by : (a c b : LraStatus) → is_own_edge a c ≡ true → Own c b → Own a b
 by a c b e path = (c ∷ path.0, (e, path.1))
 
--- one edge, and two
+-- paths of one edge and of two
 once : (a b : LraStatus) → is_own_edge a b ≡ true → Own a b
 once a b e = by a b b e (here b)
 
 twice : (a c b : LraStatus) → is_own_edge a c ≡ true → is_own_edge c b ≡ true → Own a b
 twice a c b e f = by a c b e (once c b f)
 
--- on one branch
+-- a path on one branch
 pub own_path : (a b : LraStatus) → rank a ≤ rank b → are_parted a b ≡ false → IsPath is_own_edge a b
 own_path Active Active le e = here Active
 own_path Active Closing le e = once Active Closing refl
@@ -45,7 +45,7 @@ own_path Cancelled FailedToCancel le e = once Cancelled FailedToCancel refl
 own_path FailedToCancel FailedToCancel le e = here FailedToCancel
 own_path a b le e = absurd (first_of (cc, omega (arith, le)))
 
--- an edge of its own is an edge
+-- an edge on one branch is an edge
 widen : (a b : LraStatus) (steps : List LraStatus) → LeadsBy is_own_edge a steps b → LeadsBy is_edge a steps b
 widen a b [] e = e
 widen a b (c ∷ steps) e = (left (is_own_edge a c) _ e.0, widen c b steps e.1)
@@ -54,7 +54,7 @@ widen a b (c ∷ steps) e = (left (is_own_edge a c) _ e.0, widen c b steps e.1)
     left true y s = refl
     left false y s = absurd cc
 
--- from one branch to the other
+-- a path from one branch to the other
 
 above_edge : (a : LraStatus) → is_to_close a ≡ true → is_edge a Cancelling ≡ true
 above_edge Closing e = refl
@@ -68,7 +68,7 @@ cancel_path Cancelled e = once Cancelling Cancelled refl
 cancel_path FailedToCancel e = once Cancelling FailedToCancel refl
 cancel_path b e = absurd cc
 
--- never back
+-- there is no way back
 never_back : (a b : LraStatus) → is_to_cancel a ≡ true → is_to_close b ≡ true → rank a ≤ rank b → ⊥
 never_back a b e f le = omega (arith, low b f, high a e, le)
   where

@@ -1,4 +1,4 @@
--- where a compensation under a topmost cancelled LRA is pending, one is due there
+-- if a compensation under a topmost cancelled LRA is pending, one is due there
 use Rattle.std.proofs.Common.{◌≡◌, inl, inr, ◌&&◌, ℕ, suc, List, [], refl, sym, ap, ◌∙◌, Bool, true, false, arith, Option, Some, None, is_some}
 use mathlib.Core.Bool.{not}
 use Rattle.std.specs.List.{list_any, AllByRecursion}
@@ -18,12 +18,12 @@ use Rattle.lra_forest.proofs.SagaOrder.{topmost_below}
 use Rattle.lra_history.proofs.Basics.{both_true, false_from}
 use Rattle.lra_progress.proofs.LastInOrder.{IsLast, last_of_all}
 
--- it tells of a participant under a that is still to compensate
+-- the fact joins a participant under a that is still to compensate
 abbrev pub tells_pending : List Fact → Id → Body → Bool
 tells_pending S a (Join d m links) = is_under S a d && (not (has_left S d m) && is_uncompensated S d m)
 tells_pending S a _ = false
 
--- and its path in the saga
+-- and the path of that participant in the saga
 abbrev pub path_told : List Fact → Body → List ℕ
 path_told S (Join d m links) = saga_path S d m
 path_told S _ = []
@@ -57,7 +57,7 @@ pending_told S a (Purge root) e = absurd cc
 pub told_pending : (S : List Fact) (a d : Id) (m : ℕ) (links : Links) → IsPending S a d m → tells_pending S a (Join d m links) ≡ true
 told_pending S a d m links h = rw (h.under, h.stayed) h.pending
 
--- what holds a compensation back tells of one that is pending, and later
+-- a fact that holds a compensation back joins a participant that is pending and later
 back_told : (S : List Fact) (a : Id) (path : List ℕ) (body : Body) → holds_back S a path body ≡ true → (tells_pending S a body ≡ true) × (is_later (path_told S body) path ≡ true)
 back_told S a path (Join d m links) e =
     let rest = and_right (is_under S a d) _ e in
@@ -87,7 +87,7 @@ participant_by S d m links f i body stayed = by (links_of S d m) refl
 clash : (b : Bool) → b ≡ true → b ≡ false → ⊥
 clash b e f = let wrong : true ≡ false = sym e ∙ f in cc
 
--- the last of those that are pending is due
+-- the last pending participant is due
 last_due : (S : List Fact) → AllByRecursion NamesEarlier S → (a : Id) → topmost_cancelled S a ≡ Some a → (f : Fact) (d : Id) (m : ℕ) (links : Links) → In f S → f.body ≡ Join d m links → IsPending S a d m
     → ((g : Fact) → In g S → tells_pending S a g.body ≡ true → is_later (path_told S g.body) (saga_path S d m) ≡ false) → is_compensation_due S d m ≡ true
 last_due S nested a top f d m links i body p last =
@@ -107,7 +107,7 @@ last_due S nested a top f d m links i body p last =
         both_true (is_participant S d m) _ (participant_by S d m links f i body p.stayed)
         (both_true (is_uncompensated S d m) _ p.pending (ap not free))
 
--- so one is due
+-- so some participant is due
 pub some_due : (S : List Fact) → AllByRecursion NamesEarlier S → (a : Id) → topmost_cancelled S a ≡ Some a → (f : Fact) → In f S → tells_pending S a f.body ≡ true → (d : Id) × (m : ℕ) × (is_under S a d ≡ true) × (is_compensation_due S d m ≡ true)
 some_due S nested a top f i e = elim (last_of_all (λ (g : Fact). tells_pending S a g.body) (λ (g : Fact). path_told S g.body) S) [
   | inl last ↦ found last.0 last.1

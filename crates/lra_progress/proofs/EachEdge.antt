@@ -1,4 +1,4 @@
--- each edge of the diagram happens, by one command more at the only node of a world
+-- each edge of the diagram happens, by one more command at the only node of a world
 use Rattle.std.proofs.Common.{◌≡◌, ℕ, List, [], ◌∷◌, refl, sym, subst, ◌++◌, Bool, true, arith, Some, None, Ok, map}
 use Rattle.lra_id.specs.Ids.{Id}
 use Rattle.lra_id.specs.declared.status.LraStatus.{LraStatus}
@@ -65,7 +65,7 @@ happens cs c l a b before after =
       after = after;
     }
 
--- A root with one participant, and one that is nested in a root
+-- A root with one participant, and an LRA that is nested in a root
 
 abbrev lra : ℕ → Id
 lra n = record { home = 1; num = n }

@@ -19,7 +19,7 @@ use Rattle.lra_callback.specs.declared.duty.Duty.{Duty}
 use Rattle.lra_progress.specs.Calls.{IsActUnder}
 use Rattle.lra_progress.proofs.ActsAsked.{call_asked}
 
--- what is held is covered by the front
+-- an LRA that is held is covered by the front
 pub held_covered : (S : List Fact) (v : List ℕ) (l : Id) → IsCounted S v → is_held S l ≡ true → is_covered v l ≡ true
 held_covered S v l counted held = le l.num (count v l.home) (begun_covered S v l counted (held_begun S l held)).1
   where
@@ -32,7 +32,7 @@ number_free v node h = lt (count v node) last_number h
     lt : (a b : ℕ) → a < b → nat_lt a b ≡ true
     lt a b h = grind (arith, nat_tests)
 
--- what has not ended was not heard to have
+-- no end was heard of an act that has not ended
 unheard : (S : List Fact) (l : Id) (m : ℕ) (call : Duty) (outcome : Outcome) → is_pending (heard S l m call.act) ≡ true → is_pending (Some outcome) ≡ false → is_heard S l m call.act outcome ≡ false
 unheard S l m call outcome pending ends = by (level (heard S l m call.act)) (level (Some outcome)) pending ends
   where

@@ -1,4 +1,4 @@
--- ends that a node of the world hears of
+-- ends of acts that a node of the world hears
 use Rattle.std.proofs.Common.{◌≡◌, ◌≤◌, ◌<◌, ◌+◌, ℕ, List, [], ◌∷◌, sym, ap, subst, ◌∙◌, true, arith, length, Some, is_some}
 use Rattle.lra_id.specs.Ids.{Id}
 use Rattle.lra_id.specs.declared.outcome.Verdict.{Verdict}
@@ -16,7 +16,7 @@ use Rattle.lra_progress.proofs.Hearing.{still_node}
 use Rattle.lra_progress.proofs.OpenUnder.{ended_none}
 use Rattle.lra_progress.proofs.OpenInAHistory.{falls, stays}
 
--- the node's earlier set, in the later history
+-- the node's earlier set, as facts of the later history
 pub earlier_set : (s t : State) (node : ℕ) → IsWorld s → IsKeptBy s t → IsNode s node → facts t.history (front_of s node) ≡ set_of s node
 earlier_set s t node world kept is = kept.grown.same (front_of s node) (world.current node is.some is.there).closed
 
@@ -38,11 +38,11 @@ world_falls s t node l verdict world kept is wanted later hears =
     (falls t.history (front_of s node) (front_of t node) l verdict kept.world.lawful (kept.grown.closed (front_of s node) was) (kept.world.current node there.some there.there).closed (kept.risen node is)
     (ap (λ (S : List Fact). want S l) same ∙ wanted) later (subst (λ (S : List Fact). HearsAnEnd S (set_of t node) l) (sym same) hears))
 
--- whatever happens, no more are open
+-- whatever happens, no more participants are open
 pub run_stays : (s t : State) (node : ℕ) (l : Id) (verdict : Verdict) (events : List Event) (replies : List Reply) → IsWorld s → Runs s events replies t → IsNode s node → want (set_of s node) l ≡ Some verdict → want (set_of t node) l ≡ Some verdict → open_under (set_of t node) l ≤ open_under (set_of s node) l
 run_stays s t node l verdict events replies world runs is wanted later = world_stays s t node l verdict world (run_keeps s t events replies world runs) is wanted later
 
--- each end that is heard leaves fewer
+-- each end that is heard leaves fewer open
 each_falls : (node : ℕ) (l : Id) (verdict : Verdict) (s : State) (ts : List State) → IsWorld s → IsNode s node → want (set_of s node) l ≡ Some verdict → GoOn node l s ts → length ts + open_under (set_of (last_state s ts) node) l ≤ open_under (set_of s node) l
 each_falls node l verdict s [] world is wanted on = omega arith
 each_falls node l verdict s (t ∷ ts) world is wanted on =

@@ -17,7 +17,7 @@ use Rattle.lra_world.specs.Worlds.{Acts, IfNode, IsWorld, State, Steps, front_of
 use Rattle.lra_world.proofs.Moving.{IsKeptBy, step_keeps}
 use Rattle.lra_progress.proofs.NeverRefused.{node_is}
 
--- the state after it: the node's set has one fact more
+-- the state after a command was entered: the node's set has one more fact
 pub record HasEntered (s : State) (node : ℕ) (c : Command) : Type 0 where
   pub state : State
   pub is : state ≡ with_command s node c

@@ -31,7 +31,8 @@ saga =
     fact 1 (Begin None 0) ∷ fact 2 (Join (lra 1) 1 plain) ∷ fact 3 (Begin (Some (lra 1)) 0) ∷ fact 4 (Join (lra 3) 1 plain)
     ∷ fact 5 (Join (lra 3) 2 plain) ∷ fact 6 (Join (lra 1) 3 plain) ∷ fact 7 (Decide (lra 1) Cancel) ∷ []
 
--- the nested LRA is under way, and none of its own is called: it waits for the third member of its parent
+-- the nested LRA is under way, but none of its own participants is called: it waits for the third
+-- member of its parent
 the_child_is_cancelling : status saga (lra 3) ≡ Some Cancelling
 the_child_is_cancelling = refl
 
@@ -56,7 +57,7 @@ a_busy_one_is_open = refl
 three_are_open_then : open_under (fact 8 (Report (lra 1) 3 Compensate Failed) ∷ saga) (lra 1) ≡ 3
 three_are_open_then = refl
 
--- a parent that closes waits for its child that was cancelled alone
+-- a parent that closes waits for its child that was cancelled on its own
 abbrev cancelled_child : List Fact
 cancelled_child =
     fact 1 (Begin None 0) ∷ fact 2 (Begin (Some (lra 1)) 0) ∷ fact 3 (Join (lra 2) 1 plain) ∷ fact 4 (Decide (lra 2) Cancel)
@@ -77,7 +78,8 @@ one_is_open = refl
 then_it_is_closed : status (fact 6 (Report (lra 2) 1 Compensate Done) ∷ cancelled_child) (lra 1) ≡ Some Closed
 then_it_is_closed = refl
 
--- a new decision may leave more again: a child that was closed is compensated where its parent is cancelled
+-- a new decision may leave more to do: a child that was closed is compensated if its parent is
+-- cancelled
 abbrev closed_child : List Fact
 closed_child =
     fact 1 (Begin None 0) ∷ fact 2 (Begin (Some (lra 1)) 0) ∷ fact 3 (Join (lra 2) 1 full) ∷ fact 4 (Decide (lra 2) Close)
@@ -89,7 +91,8 @@ none_is_open = refl
 one_is_open_again : open_under (fact 6 (Decide (lra 1) Cancel) ∷ closed_child) (lra 2) ≡ 1
 one_is_open_again = refl
 
--- the answers that are left are so many at most: a root's participant that completed has nothing to forget
+-- the count of answers left is an upper bound: a root's participant that completed has nothing to
+-- forget
 abbrev alone : List Fact
 alone = fact 1 (Begin None 0) ∷ fact 2 (Join (lra 1) 1 full) ∷ fact 3 (Decide (lra 1) Close) ∷ []
 

@@ -13,7 +13,7 @@ use Rattle.lra_progress.specs.Rounds.{may_enter}
 history_same : (s t : State) → t ≡ s → t.history ≡ s.history
 history_same s t e = ap (λ (u : State). u.history) e
 
--- what leaves it so at a node leaves it so where there is none
+-- a step that leaves the history at a node also leaves it if there is no such node
 at_node : (b : Bool) (s : State) (happens : Type 0) (reply : Reply) (t : State) → (happens → t.history ≡ s.history) → IfNode b s happens reply t → t.history ≡ s.history
 at_node true s happens reply t same h = same h
 at_node false s happens reply t same h = history_same s t h.1

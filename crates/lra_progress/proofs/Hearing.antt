@@ -55,7 +55,7 @@ frame_new s version node base =
     added : SentFrame
     added = record { version = version; base = base; front = front_of s node }
 
--- A step by which one is sent
+-- A step that sends a frame
 
 sends_sent : (s t : State) (node : ℕ) (base : List ℕ) (version : Version) (number : ℕ) → Sends s node base version (Sent number) t → (number ≡ length s.sent + 1) × (t ≡ with_frame s version node base)
 sends_sent s t node base version number (inl h) = absurd (let wrong = h.1.0 in cc)
@@ -70,7 +70,7 @@ step_sent s t node base version number step = by (is_node s node) step
     by true h = sends_sent s t node base version number h
     by false h = absurd (let wrong = h.0 in cc)
 
--- A step by which one is taken
+-- A step that takes a frame
 
 takes_took : (s t : State) (node : ℕ) (frame : SentFrame) (bytes : List ℕ) (kept : ℕ) → Takes s node frame bytes kept Took t → t ≡ with_front s node (join_fronts (front_of s node) frame.front)
 takes_took s t node frame bytes kept (inl h) = absurd (let wrong = h.1.0 in cc)
@@ -78,7 +78,7 @@ takes_took s t node frame bytes kept (inr (inl h)) = absurd (let wrong = h.1.2.0
 takes_took s t node frame bytes kept (inr (inr (inl h))) = absurd (let wrong = h.2.0 in cc)
 takes_took s t node frame bytes kept (inr (inr (inr h))) = h.3
 
--- a frame that was sent is joined
+-- the node joined the front of a frame that was sent
 record IsTaken (s t : State) (node number : ℕ) : Type 0 where
   pub frame : SentFrame
   pub there : frame_at s number ≡ Some frame
@@ -95,7 +95,7 @@ step_took s t node number kept step = by (is_node s node) step
     by true h = comes_took s t node number kept (frame_at s number) refl h
     by false h = absurd (let wrong = h.0 in cc)
 
--- Runs in which one is sent, and taken
+-- Runs in which a frame is sent and taken
 
 pub still_node : (s t : State) (node : ℕ) → IsKeptBy s t → IsNode s node → IsNode t node
 still_node s t node kept is = record { some = is.some; there = omega (arith, is.there, kept.grown.nodes) }
@@ -146,7 +146,7 @@ took_in s t (event ∷ events) (reply ∷ replies) node number kept frame world 
     let first = step_keeps s runs.0 event reply world runs.1 in
     took_in runs.0 t events replies node number kept frame first.world runs.2 (still_node s runs.0 node first is) later at
 
--- so who takes a frame that another sends in the run counts what that counted before
+-- so a node that takes a frame which another sends in the run counts what that node counted before
 pub hears_below : (s t : State) (events : List Event) (replies : List Reply) (from to : ℕ) → IsWorld s → Runs s events replies t → IsNode s from → IsNode s to → HearsOf from to events replies → IsBelow (front_of s from) (front_of t to)
 hears_below s t events replies from to world runs one other hears =
     let sent = sent_in s t events replies from hears.base hears.version hears.number world runs one hears.sends in

@@ -1,4 +1,4 @@
--- of those that pass a test, one that no other is later than
+-- among the elements that pass a test, one that no other is later than
 use Rattle.std.proofs.Common.{◌≡◌, ◌⊎◌, inl, inr, ◌||◌, ◌&&◌, ◌==◌, ℕ, List, [], ◌∷◌, refl, sym, ap, ◌∙◌, Bool, true, false, arith, nat_lt}
 use Rattle.std.proofs.lemmas.Bool.Decides.{nat_tests}
 use Rattle.lra_facts.specs.Duties.{is_later}
@@ -12,7 +12,7 @@ later_self (x ∷ p) = by (is_later p p) (later_self p)
     by true e = absurd cc
     by false e = grind (arith, nat_tests)
 
--- what is later than a later one is later
+-- a path that is later than a later one is later
 pub later_goes : (p q r : List ℕ) → is_later p q ≡ true → is_later q r ≡ true → is_later p r ≡ true
 later_goes [] q r e f = absurd cc
 later_goes (x ∷ p) [] r e f = absurd cc
@@ -29,7 +29,7 @@ later_goes (x ∷ p) (y ∷ q) (z ∷ r) e f = by (is_later p q) (is_later q r) 
     by false false true h e f = grind (arith, nat_tests, e, f)
     by false false false h e f = grind (arith, nat_tests, e, f)
 
--- it passes, and none that passes is later
+-- x passes, and no element that passes is later
 pub record IsLast {X : Type 0} (passes : X → Bool) (path : X → List ℕ) (xs : List X) (x : X) : Type 0 where
   pub there : In x xs
   pub own : passes x ≡ true
@@ -51,7 +51,7 @@ last_of_all {X} passes path (x ∷ xs) = by (passes x) refl (last_of_all passes 
     alone e none y (inl s) t = ap (λ (z : X). is_later (path z) (path x)) s ∙ later_self (path x)
     alone e none y (inr m) t = absurd (clash (passes y) t (none y m))
 
-    -- it is later than the last of the others
+    -- x is later than the last of the others
     beyond : (z : X) → IsLast passes path xs z → is_later (path x) (path z) ≡ true → (y : X) → In y (x ∷ xs) → passes y ≡ true → is_later (path y) (path x) ≡ false
     beyond z last later y (inl s) t = ap (λ (w : X). is_later (path w) (path x)) s ∙ later_self (path x)
     beyond z last later y (inr m) t = test (is_later (path y) (path x)) refl
@@ -60,7 +60,7 @@ last_of_all {X} passes path (x ∷ xs) = by (passes x) refl (last_of_all passes 
         test false f = f
         test true f = absurd (clash (is_later (path y) (path z)) (later_goes (path y) (path x) (path z) f later) (last.none y m t))
 
-    -- it is not
+    -- x is not later
     before : (z : X) → IsLast passes path xs z → is_later (path x) (path z) ≡ false → (y : X) → In y (x ∷ xs) → passes y ≡ true → is_later (path y) (path z) ≡ false
     before z last not_later y (inl s) t = ap (λ (w : X). is_later (path w) (path z)) s ∙ not_later
     before z last not_later y (inr m) t = last.none y m t

@@ -1,4 +1,4 @@
--- a call to act stands in a view's list for one that is to complete or to compensate
+-- a view's list has a call to act for each participant that is to complete or to compensate
 use Rattle.std.proofs.Common.{◌≡◌, ◌⊎◌, inl, inr, ◌++◌, ℕ, List, [], ◌∷◌, refl, sym, ap, subst, ◌∙◌, true, Option, Some, None, filter_map}
 use Rattle.std.specs.List.{cons_option}
 use Rattle.std.specs.Option.{option_map_or}
@@ -19,7 +19,7 @@ use Rattle.lra_callback.specs.Errands.{kind_by}
 use Rattle.lra_callback.specs.ViewDuties.{after_call, call_at, call_for, duties_of, forget_call, shown_in}
 use Rattle.lra_progress.specs.Calls.{asks_to_act}
 
--- what is made of a list is made of one of its elements
+-- each element made from a list is made from one of its elements
 made_of : {X Y : Type 0} (g : X → Option Y) (xs : List X) (y : Y) → In y (filter_map g xs) → (x : X) × In x xs × (g x ≡ Some y)
 made_of g [] y there = absurd there
 made_of {X} {Y} g (x ∷ xs) y there = by (g x) refl (made_of g xs y) there
@@ -29,7 +29,7 @@ made_of {X} {Y} g (x ∷ xs) y there = by (g x) refl (made_of g xs y) there
     by (Some z) e rest (inl same) = (x, inl refl, e ∙ ap (λ (v : Y). Some v) (sym same))
     by (Some z) e rest (inr later) = let found = rest later in (found.0, inr found.1, found.2)
 
--- the call is of the kind, and of the participant of which something is due
+-- the call is of this kind, and calls the participant of which something is due
 record IsMadeOf (d : Due) (kind : Kind) (call : Duty) : Type 0 where
   due : due_of call ≡ d
   kind_is : call.kind ≡ kind
@@ -66,7 +66,7 @@ acts_in view act dues call there =
     let made = made_of (call_for view act) dues call there in
     subst (λ (d : Due). In d dues) (sym (acts view act made.0 call made.2)) made.1
 
--- one that is to complete or to compensate
+-- the participant is to complete or to compensate
 abbrev pub IsToAct : View → ℕ → Due → Type 0
 IsToAct view me d = In d (completions_of view me) ⊎ In d (compensations_of view me)
 

@@ -1,4 +1,4 @@
--- the sagas of a decided tree go side by side
+-- the sagas of a decided tree run side by side
 use Rattle.std.proofs.Common.{◌≡◌, ◌≤◌, ℕ, suc, List, [], ◌∷◌, sym, ap, subst, ◌∙◌, true, arith, length, Some, is_some}
 use Rattle.lra_id.specs.Ids.{Id}
 use Rattle.lra_id.specs.declared.outcome.Verdict.{Verdict}
@@ -40,7 +40,7 @@ use Rattle.lra_progress.proofs.OpenUnder.{IsTold, some_open, told_join}
 use Rattle.lra_progress.proofs.SagasAlone.{alone_before, alone_top}
 use Rattle.lra_progress.proofs.UnderWay.{in_under, saga_some, under_goes, under_in}
 
--- a call under an LRA is one under what that is under
+-- a call under an LRA is also a call under every LRA above that
 call_above : (S : List Fact) (l a : Id) (call : Duty) → IsSettled S → is_under S l a ≡ true → IsActUnder S a call → IsActUnder S l call
 call_above S l a call settled under due =
     record {
@@ -49,7 +49,7 @@ call_above S l a call settled under due =
       asks = due.asks;
     }
 
--- so rounds of an LRA are rounds of each under it
+-- so rounds of calls under an LRA are rounds for each LRA under it
 rounds_below : (s : State) (ts : List State) (node : ℕ) (l a : Id) → IsWorld s → IsNode s node → is_begun (set_of s node) a ≡ true → is_under (set_of s node) l a ≡ true → GoInRounds node l s ts → GoInRounds node a s ts
 rounds_below s [] node l a world is begun under on = tt
 rounds_below s (t ∷ ts) node l a world is begun under on =
@@ -63,7 +63,8 @@ rounds_below s (t ∷ ts) node l a world is begun under on =
       rounds_below t ts node l a kept.world (still_node s t node kept is) (begun_still s t node a world kept is begun) (under_still s t node l a world kept is begun under) on.1,
     )
 
--- the topmost cancelled LRA of one that is open, under an LRA that wants the same, was so before
+-- the topmost cancelled LRA of an open participant was the topmost before, if the LRA it is under
+-- wants the same
 record WasTop (S : List Fact) (l a : Id) : Type 0 where
   begun : is_begun S a ≡ true
   under : is_under S l a ≡ true
@@ -91,7 +92,7 @@ was_top h v w g l x wanted later f d m links there body under a above beneath to
     wants : want (facts h v) a ≡ Some Cancel
     wants = kept_want h v w g l x wanted later a begun (under_in (facts h w) l a beneath) ∙ cancels (facts h w) a a top
 
--- none is open at the end: its saga has ended
+-- no participant is open at the end: its saga has ended
 none_open : (s : State) (ts : List State) (node : ℕ) (root : Id) (verdict : Verdict) → IsDecidedAt s node root verdict → GoInRounds node root s ts → 1 ≤ length ts → ((top : Id) → is_under (set_of s node) root top ≡ true → topmost_cancelled (set_of s node) top ≡ Some top → compensations_left (set_of s node) top ≤ length ts)
     → (f : Fact) (d : Id) (m : ℕ) (links : Links) → In f (set_of (last_state s ts) node) → f.body ≡ Join d m links → IsTold (is_open_at (set_of (last_state s ts) node)) (set_of (last_state s ts) node) root d m links → want (set_of (last_state s ts) node) d ≡ Some Cancel → ⊥
 none_open s ts node root verdict at on some short f d m links there body told cancel =

@@ -1,4 +1,4 @@
--- a frame since nothing is sent, and taken where it comes whole
+-- a frame since nothing is sent, and is taken if it arrives whole
 use Rattle.std.proofs.Common.{◌≡◌, inl, inr, ◌≤◌, ◌+◌, ◌-◌, ℕ, zero, suc, List, refl, sym, subst, Bool, true, false, arith, ◌&&◌, Option, None, Some, length, nat_le, replicate, slice_index}
 use Rattle.std.proofs.lemmas.Bool.Decides.{nat_tests}
 use Rattle.std.proofs.lemmas.List.{length-replicate}
@@ -11,7 +11,7 @@ use Rattle.lra_world.specs.Headline.{IsNode}
 use Rattle.lra_world.specs.Worlds.{Comes, IfNode, IsEncoded, NeedsLater, Sends, SentFrame, State, Steps, Takes, frame_at, front_of, is_node, nodes_of}
 use Rattle.lra_world.proofs.Determined.{one_encoding}
 
--- nothing is counted by a front of no facts
+-- a front of no facts counts nothing
 none_at : (n i : ℕ) → slice_index (replicate n 0) i ≡ 0
 none_at zero i = refl
 none_at (suc n) zero = refl
@@ -20,7 +20,7 @@ none_at (suc n) (suc i) = none_at n i
 pub nothing_below : (n : ℕ) (v : List ℕ) → IsBelow (replicate n 0) v
 nothing_below n v node = let none : count (replicate n 0) node ≡ 0 = none_at n (node - 1) in omega (arith, none)
 
--- it never needs a later version
+-- such a frame never needs a later version
 pub two_tells : (s : State) (node : ℕ) (base : List ℕ) → NeedsLater s node base Two → ⊥
 two_tells s node base needs = let wrong = needs.2 in cc
 
@@ -36,7 +36,7 @@ takes_so s t node frame bytes reply below (inr (inl h)) = absurd (omega (arith, 
 takes_so s t node frame bytes reply below (inr (inr (inl h))) = absurd (h.1 below)
 takes_so s t node frame bytes reply below (inr (inr (inr h))) = h.2
 
--- where there is such a node
+-- `is_node` is true if there is such a node
 pub node_is : (s : State) (node : ℕ) → IsNode s node → is_node s node ≡ true
 node_is s node is = both (le 1 node is.some) (le node (nodes_of s) is.there)
   where

@@ -1,4 +1,4 @@
--- how many are open under an LRA in two closed sets of one history
+-- how many participants are open under an LRA in two closed sets of one history
 use Rattle.std.proofs.Common.{◌≡◌, ◌≤◌, ◌<◌, ℕ, List, Some}
 use Rattle.lra_id.specs.Ids.{Id}
 use Rattle.lra_id.specs.Fronts.{IsBelow}

@@ -1,4 +1,4 @@
--- how many participants are open under an LRA, with more facts
+-- how many participants are open under an LRA, if there are more facts
 use Rattle.std.proofs.Common.{◌≡◌, ◌↔◌, inl, inr, ◌≤◌, ◌<◌, ◌&&◌, ◌||◌, ℕ, List, [], ◌∷◌, refl, sym, ap, subst, ◌∙◌, Bool, true, false, cond, arith, filter, is_some, length, map, Option, Some, None}
 use mathlib.Core.Bool.{not}
 use Rattle.std.specs.List.{list_any}
@@ -36,7 +36,7 @@ clash b e f = let wrong : true ≡ false = sym e ∙ f in cc
 
 -- Counts
 
--- where what passes one test passes another, the other keeps no fewer
+-- if each element that passes one test passes another, the other keeps no fewer
 fewer : {X : Type 0} (p q : X → Bool) (xs : List X) → ((x : X) → In x xs → p x ≡ true → q x ≡ true) → length (filter p xs) ≤ length (filter q xs)
 fewer p q [] h = omega arith
 fewer p q (x ∷ xs) h = by (p x) (q x) (h x (inl refl)) (fewer p q xs (λ y m. h y (inr m)))
@@ -47,7 +47,7 @@ fewer p q (x ∷ xs) h = by (p x) (q x) (h x (inl refl)) (fewer p q xs (λ y m. 
     by false true t rest = omega (arith, rest)
     by false false t rest = rest
 
--- and more, where one that passes the other doesn't pass the first
+-- and it keeps more, if an element that passes it doesn't pass the first
 less : {X : Type 0} (p q : X → Bool) (xs : List X) (y : X) → ((x : X) → In x xs → p x ≡ true → q x ≡ true) → In y xs → p y ≡ false → q y ≡ true → length (filter p xs) < length (filter q xs)
 less p q [] y h m fails holds = absurd m
 less p q (x ∷ xs) y h (inl s) fails holds = by (p x) (q x) (ap p (sym s) ∙ fails) (ap q (sym s) ∙ holds) (fewer p q xs (λ z m. h z (inr m)))
@@ -80,9 +80,9 @@ kept_none p (x ∷ xs) e = by (p x) (kept_none p xs) e
     by true rest e = absurd cc
     by false rest e = rest e
 
--- An LRA has ended just where none is open
+-- An LRA has ended exactly if no participant under it is open
 
--- one is open where it shows so
+-- a participant is open exactly if its status shows that
 open_shows : (S : List Fact) (l : Id) (body : Body) → joins_under (is_open_at S) S l body ≡ shows is_open S l body
 open_shows S l (Join d m links) = refl
 open_shows S l (Begin parent deadline) = refl
@@ -104,7 +104,7 @@ ended_none S l wants = (
 
 -- The participant of a call
 
--- a participant has joined, and stayed
+-- a participant has joined and did not leave
 pub joined_as : (S : List Fact) (d : Id) (m : ℕ) → is_participant S d m ≡ true → (links : Links) × (f : Fact) × In f S × (f.body ≡ Join d m links)
 joined_as S d m known = by (links_of S d m) refl (and_left (is_some (links_of S d m)) _ known)
   where
@@ -115,7 +115,8 @@ joined_as S d m known = by (links_of S d m) refl (and_left (is_some (links_of S 
 pub stayed_by : (S : List Fact) (d : Id) (m : ℕ) → is_participant S d m ≡ true → has_left S d m ≡ false
 stayed_by S d m known = not_false (has_left S d m) (and_right (is_some (links_of S d m)) _ known)
 
--- a fact that tells of one is its join
+-- a fact that counts is the join of a participant that is under l, did not leave, and passes the
+-- test
 pub record IsTold (test : Id → ℕ → Links → Bool) (S : List Fact) (l d : Id) (m : ℕ) (links : Links) : Type 0 where
   pub under : is_under S l d ≡ true
   pub stayed : has_left S d m ≡ false
@@ -146,7 +147,7 @@ pub join_told : (test : Id → ℕ → Links → Bool) (S : List Fact) (l d : Id
 join_told test S l d m links body e h =
     ap (joins_under test S l) e ∙ both_true (is_under S l d) _ h.under (both_true (not (has_left S d m)) _ (ap not h.stayed) h.passes)
 
--- one that fails the test isn't told of
+-- the join of a participant that fails the test does not count
 pub told_not : (test : Id → ℕ → Links → Bool) (S : List Fact) (l d : Id) (m : ℕ) (links : Links) (body : Body) → body ≡ Join d m links → test d m links ≡ false → joins_under test S l body ≡ false
 told_not test S l d m links body e fails = ap (joins_under test S l) e ∙ never (is_under S l d) (not (has_left S d m)) (test d m links) fails
   where
@@ -155,7 +156,7 @@ told_not test S l d m links body e fails = ap (joins_under test S l) e ∙ never
     never true false c e = refl
     never false b c e = refl
 
--- one that is to be called is open
+-- a participant that is to be called is open
 pub call_open : (S : List Fact) (l : Id) (call : Duty) → IsSettled S → IsActUnder S l call → (links : Links) (f : Fact) → In f S → f.body ≡ Join call.id call.member links → joins_under (is_open_at S) S l f.body ≡ true
 call_open S l call settled due links f i body =
     let d = call.id in
@@ -174,12 +175,13 @@ ended_uncalled S l call settled ended due =
     let opened = any_from (λ (f : Fact). joins_under (is_open_at S) S l f.body) S joined.1 joined.2 (call_open S l call settled due joined.0 joined.1 joined.2 joined.3) in
     clash (some_shows is_open S l) (sym (some_open S l) ∙ opened) (not_false (some_shows is_open S l) (and_right (is_some (want S l)) _ ended))
 
--- Of a part of all facts
+-- Two sets as parts of all facts
 
 abbrev all : History → List Fact
 all h = map fact_of (made h)
 
--- counts of two sets of one history, where what is counted in the second is there and counted in the first
+-- counts in two sets of one history, if whatever is counted in the second is in the first and
+-- counted there
 module _ (h : History) (v w : List ℕ) (p q : Fact → Bool) (kept : (f : Fact) → In f (facts h w) → q f ≡ true → In f (facts h v) × (p f ≡ true)) where
   count_is : (u : List ℕ) (t : Fact → Bool) → length (filter t (facts h u)) ≡ length (filter (λ f. is_counted u f && t f) (all h))
   count_is u t = ap (λ (fs : List Fact). length fs) (sym (filter_both (is_counted u) t (all h)))
@@ -192,7 +194,7 @@ module _ (h : History) (v w : List ℕ) (p q : Fact → Bool) (kept : (f : Fact)
   pub facts_fewer : length (filter q (facts h w)) ≤ length (filter p (facts h v))
   facts_fewer = omega (arith, count_is v p, count_is w q, fewer (λ (f : Fact). is_counted w f && q f) (λ (f : Fact). is_counted v f && p f) (all h) kept_test)
 
-  -- one is no longer counted
+  -- the count falls if one fact is no longer counted
   pub facts_less : (f : Fact) → In f (facts h v) → p f ≡ true → q f ≡ false → length (filter q (facts h w)) < length (filter p (facts h v))
   facts_less f i holds fails =
       let there = filter_in (is_counted v) (all h) f i in
@@ -208,12 +210,12 @@ module _ (h : History) (v w : List ℕ) (p q : Fact → Bool) (kept : (f : Fact)
       never true b e = e
       never false b e = refl
 
--- a test that no fact makes true of a participant
+-- a test that no new fact makes true of a participant
 abbrev pub Fades : History → (v w : List ℕ) → (List Fact → Id → ℕ → Links → Bool) → Id → Type 0
 Fades h v w test l = (d : Id) (m : ℕ) (links : Links) → is_begun (facts h v) d ≡ true → In l (chain (facts h w) d) → test (facts h w) d m links ≡ true → test (facts h v) d m links ≡ true
 
 module _ (h : History) (v w : List ℕ) (g : IsGrown h v w) (l : Id) (x : Verdict) (wanted : want (facts h v) l ≡ Some x) (later : want (facts h w) l ≡ Some x) where
-  -- what the greater set tells of under l, the lesser does
+  -- each fact under l that the greater set counts, the lesser counts too
   kept_fact : (test : List Fact → Id → ℕ → Links → Bool) → Fades h v w test l → (f : Fact) → In f (facts h w) → joins_under (test (facts h w)) (facts h w) l f.body ≡ true → In f (facts h v) × (joins_under (test (facts h v)) (facts h v) l f.body ≡ true)
   kept_fact test fades f i e =
       let S = facts h v in
@@ -245,7 +247,7 @@ module _ (h : History) (v w : List ℕ) (g : IsGrown h v w) (l : Id) (x : Verdic
   count_less test fades f i holds fails =
       facts_less h v w (λ (y : Fact). joins_under (test (facts h v)) (facts h v) l y.body) (λ (y : Fact). joins_under (test (facts h w)) (facts h w) l y.body) (kept_fact test fades) f i holds fails
 
-  -- no participant is open that was not
+  -- no participant is open that was not open before
   pub open_fades : Fades h v w is_open_at l
   open_fades = λ d m links begun under e.
       let S = facts h v in

@@ -1,4 +1,4 @@
--- report after report, each of a call that is due, leads to an end
+-- one report after another, each of a call that is due, leads to an end
 use Rattle.std.proofs.Common.{◌≡◌, ◌&&◌, ◌==◌, ◌≤◌, ◌<◌, ◌+◌, ℕ, zero, suc, List, [], ◌∷◌, refl, sym, ap, subst, ◌∙◌, Bool, true, false, cond, arith, Option, Some, None, is_some, nat_lt}
 use mathlib.Core.Bool.{not}
 use Rattle.std.proofs.lemmas.Bool.Decides.{nat_tests}
@@ -50,9 +50,9 @@ use Rattle.lra_progress.proofs.Hearing.{still_node}
 use Rattle.lra_progress.proofs.OpenUnder.{ended_none}
 use Rattle.lra_progress.proofs.UnderWay.{ended_under, in_under, open_calls, saga_above, saga_none, saga_some, under_in, way_calls, way_open}
 
--- One report more
+-- One more report
 
--- tests that agree find the same last one
+-- tests that agree find the same last element
 last_agree : (p q : Id → Bool) (xs : List Id) → ((x : Id) → p x ≡ q x) → last_that p xs ≡ last_that q xs
 last_agree p q [] h = refl
 last_agree p q (x ∷ xs) h =
@@ -85,7 +85,7 @@ reported_of node num l m act outcome S T a more settled begun =
     decided : (v : Verdict) (x : Id) → is_decided T v x ≡ is_decided S v x
     decided v x = any_kept f S T more (λ (g : Fact). is_decision x v g.body) refl
 
--- what it reports is heard
+-- the outcome that is reported is heard
 pub heard_done : (node num : ℕ) (l : Id) (m : ℕ) (act : Act) (S T : List Fact) → IsMore (record { origin = node; num = num; body = ReportMade l m act Done }) S T → is_pending (heard T l m act) ≡ false
 heard_done node num l m act S T more =
     let f : Fact = record { origin = node; num = num; body = ReportMade l m act Done } in
@@ -100,7 +100,7 @@ heard_done node num l m act S T more =
     ended : (n : ℕ) → 2 ≤ n → nat_lt n 2 ≡ false
     ended n h = grind (arith, nat_tests, h)
 
--- the state after it
+-- the state after the report
 record HasReported (s : State) (node : ℕ) (a : Id) (call : Duty) : Type 0 where
   state : State
   is : state ≡ with_command s node (Report call.id call.member call.act Done)
@@ -150,7 +150,7 @@ report s node a call world is held due free =
     t : State
     t = made.state
 
--- Report after report
+-- One report after another
 
 none_more : (s : State) (node : ℕ) (a : Id) (most : ℕ) → is_ended (set_of s node) a ≡ true → CanEnd s node a a most
 none_more s node a most ended =
@@ -168,7 +168,7 @@ one_before s node a call n first rest =
       ended = rest.ended;
     }
 
--- what is held and wants something, and for which no other has to wait, ends with so many
+-- an LRA that is held and wants something, and for which no other has to wait, ends after n reports
 abbrev Ends : ℕ → ℕ → Id → Verdict → Type 0
 Ends n node a verdict =
     (s : State) → IsWorld s → IsNode s node → is_held (set_of s node) a ≡ true → want (set_of s node) a ≡ Some verdict → saga_of (set_of s node) a ≡ a → open_under (set_of s node) a ≤ n → count (front_of s node) node + n < last_number → CanEnd s node a a n
@@ -202,7 +202,7 @@ ends_by zero node a verdict = λ s world is held wants own few free.
     none_more s node a zero ((ended_none (set_of s node) a (ap is_some wants)).1 (omega (arith, few)))
 ends_by (suc n) node a verdict = ends_on n node a verdict (ends_by n node a verdict)
 
--- so what is under way can be ended
+-- so an LRA that is under way can be ended
 saga_own : (S : List Fact) (l : Id) → IsSettled S → saga_of S (saga_of S l) ≡ saga_of S l
 saga_own S l settled = by (topmost_cancelled S l) refl
   where
@@ -279,7 +279,7 @@ can_end s node l world is way free =
         ap (λ (X : List Fact). chain X l) (sym same)
         ∙ kept_chain t.history (front_of s node) (front_of t node) grown l (ap (λ (X : List Fact). is_begun X l) same ∙ held_begun S l held)
 
--- and one end more can be heard
+-- and one more end can be heard
 pub can_go_on : (s : State) (node : ℕ) (l : Id) → IsWorld s → IsNode s node → IsUnderWay (set_of s node) l → count (front_of s node) node < last_number → (t : State) × GoesOn node (saga_of (set_of s node) l) s t
 can_go_on s node l world is way free =
     let settled : IsSettled (set_of s node) = closed_settled s.history world.lawful (front_of s node) (world.current node is.some is.there).closed in

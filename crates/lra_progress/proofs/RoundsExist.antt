@@ -1,4 +1,5 @@
--- from each state a round can be made: each node sends a frame since nothing, and each takes them all
+-- from each state a round can be made: each node sends a frame since nothing, and each takes all of
+-- them
 use Rattle.std.proofs.Common.{◌≡◌, inl, inr, ◌≤◌, ◌+◌, ℕ, zero, suc, List, [], ◌∷◌, ◌++◌, refl, sym, ap, subst, ◌∙◌, Bool, arith, Option, Some, length, replicate}
 use Rattle.std.proofs.lemmas.List.{length-replicate}
 use Rattle.lra_id.specs.Fronts.{IsBelow, join_fronts}
@@ -54,7 +55,7 @@ send_step s node is = subst (λ (b : Bool). IfNode b s (Sends s node (replicate 
     sends : Sends s node (replicate (nodes_of s) 0) Two reply t
     sends = inr (inr (inr (length-replicate {A = ℕ} (nodes_of s) 0, nothing_below (nodes_of s) (front_of s node), two_tells s node (replicate (nodes_of s) 0), refl, refl)))
 
--- the first so many nodes have sent one
+-- the first n nodes have each sent a frame
 record HasSent (s : State) (n : ℕ) : Type 0 where
   state : State
   events : List Event
@@ -104,7 +105,7 @@ module _ (P : ℕ → ℕ → Type 0) where
     base : frame.base ≡ replicate (nodes_of s) 0
     encoded : IsEncoded s.history frame bytes
 
-  -- the node took such a frame of the other
+  -- the node took such a frame from the other
   abbrev IsHeard : (from to : ℕ) → List Event → List Reply → Type 0
   IsHeard from to events replies = (number : ℕ) × P from number × ((kept : ℕ) × Occurs (Deliver number to kept) Took events replies)
 
@@ -120,7 +121,7 @@ module _ (P : ℕ → ℕ → Type 0) where
       comes : Comes s to (frame_at s ready.number) (length ready.bytes) Took t
       comes = subst (λ (o : Option SentFrame). Comes s to o (length ready.bytes) Took t) (sym ready.there) (ready.bytes, ready.encoded, inr (inr (inr (refl, below, refl, refl))))
 
-  -- it is ready still where nothing was entered and no frame is gone
+  -- a frame is still ready if nothing was entered and no frame is gone
   ready_still : (s t : State) (from : ℕ) → t.history ≡ s.history → t.sent ≡ s.sent → IsReady s from → IsReady t from
   ready_still s t from history sent ready =
       record {
@@ -136,7 +137,7 @@ module _ (P : ℕ → ℕ → Type 0) where
   abbrev AreReady : State → ℕ → Type 0
   AreReady s n = (from : ℕ) → 1 ≤ from → from ≤ n → IsReady s from
 
-  -- a node takes the frames of the first so many
+  -- a node takes the frames of the first n nodes
   record HasTaken (s : State) (to n : ℕ) : Type 0 where
     state : State
     events : List Event
@@ -146,7 +147,7 @@ module _ (P : ℕ → ℕ → Type 0) where
     sent : state.sent ≡ s.sent
     each : (from : ℕ) → 1 ≤ from → from ≤ n → IsHeard from to events replies
 
-  -- where one of them was taken
+  -- the state after one of them was taken
   abbrev after_one : (s : State) (from to : ℕ) → IsReady s from → State
   after_one s from to ready = with_front s to (join_fronts (front_of s to) ready.frame.front)
 
@@ -173,7 +174,7 @@ module _ (P : ℕ → ℕ → Type 0) where
       (takes_all n (after_one s (suc n) to last) to (record { some = is.some; there = is.there })
       (λ from some few. ready_still s (after_one s (suc n) to last) from refl refl (ready from some (omega (arith, few)))))
 
-  -- the first so many nodes take the frames of all
+  -- the first n nodes take the frames of all
   record HaveHeard (s : State) (n all : ℕ) : Type 0 where
     state : State
     events : List Event

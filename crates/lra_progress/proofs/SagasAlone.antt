@@ -1,4 +1,4 @@
--- an LRA that waits for none but those under itself, with more facts, did before
+-- an LRA that waits only for those under itself, if there are more facts, did so before
 use Rattle.std.proofs.Common.{◌≡◌, ◌==◌, ℕ, suc, List, sym, ap, subst, ◌∙◌, true, arith, Some}
 use Rattle.std.specs.List.{AllByRecursion}
 use Rattle.lra_id.specs.Ids.{Id}
@@ -22,7 +22,7 @@ use Rattle.lra_progress.proofs.AskedOneWay.{cancel_stays}
 use Rattle.lra_progress.proofs.CallRoundsFall.{top_of}
 use Rattle.lra_progress.proofs.UnderWay.{closing_alone, in_under, saga_some, under_goes, under_in}
 
--- two LRAs that are under each other are one
+-- two LRAs that are under each other are the same
 under_both : (S : List Fact) → AllByRecursion NamesEarlier S → (a b : Id) → is_under S a b ≡ true → is_under S b a ≡ true → a ≡ b
 under_both S nested a b one other =
     same_is a b
@@ -32,7 +32,7 @@ under_both S nested a b one other =
     equal : (m n : ℕ) → m ≡ n → (m == n) ≡ true
     equal m n e = subst (λ (k : ℕ). (m == k) ≡ true) e (equal_itself m)
 
--- where it wants Cancel, it is the topmost cancelled one
+-- if such an LRA wants Cancel, it is the topmost cancelled one
 pub alone_top : (S : List Fact) (l : Id) → want S l ≡ Some Cancel → saga_of S l ≡ l → topmost_cancelled S l ≡ Some l
 alone_top S l cancel alone =
     let top = top_of S l cancel in
@@ -54,7 +54,7 @@ module _ (h : History) (v w : List ℕ) (g : IsGrown h v w) (l : Id) where
       beneath : is_under (facts h w) top.0 l ≡ true
       beneath = in_under (facts h w) top.0 l (subst (λ (c : List Id). In top.0 c) (kept_chain h v w g l (wanted_begun h g.lawful v g.before l Cancel wants)) (under_in (facts h v) top.0 l is.under))
 
-      -- the topmost cancelled one of its chain, with more facts
+      -- the topmost cancelled LRA of its chain, if there are more facts
       last : (c : Id) × (topmost_cancelled (facts h w) top.0 ≡ Some c)
       last = top_of (facts h w) top.0 (cancel_stays h v w g top.0 (cancels (facts h v) top.0 top.0 is.own))
 

@@ -66,7 +66,7 @@ links_joined S f d m links seated i body = by (links_of S d m) refl
         let g = join_found S d m k some in
         some ∙ ap (λ (x : Links). Some x) (joins_once S g.0 f d m k links seated g.1 g.2 i body)
 
--- For what an LRA waits
+-- What an LRA waits for
 
 pub saga_some : (S : List Fact) (l a : Id) → topmost_cancelled S l ≡ Some a → saga_of S l ≡ a
 saga_some S l a top = ap (λ (o : Option Id). option_map_or (λ x. x) o l) top
@@ -74,7 +74,7 @@ saga_some S l a top = ap (λ (o : Option Id). option_map_or (λ x. x) o l) top
 pub saga_none : (S : List Fact) (l : Id) → topmost_cancelled S l ≡ None → saga_of S l ≡ l
 saga_none S l top = ap (λ (o : Option Id). option_map_or (λ x. x) o l) top
 
--- l is under it, so it is of l's home
+-- l is under the LRA that it waits for, so both have the same home
 pub saga_above : (S : List Fact) → AllByRecursion NamesEarlier S → (l : Id) → is_under S (saga_of S l) l ≡ true
 saga_above S nested l = by (topmost_cancelled S l) refl
   where
@@ -98,9 +98,10 @@ last_passes t (x ∷ xs) y e = by (last_passes t xs y) (last_that t xs) refl (t 
 clash : (b : Bool) → b ≡ true → b ≡ false → ⊥
 clash b e f = let wrong : true ≡ false = sym e ∙ f in cc
 
--- One that is open under an LRA
+-- A participant that is open under an LRA
 
--- where an LRA that is cancelled in its own right has one under it that is to compensate, one is called
+-- if an LRA that is cancelled in its own right has a participant under it that is to compensate,
+-- one is called
 saga_calls : (S : List Fact) (a : Id) → IsSettled S → is_held S a ≡ true → topmost_cancelled S a ≡ Some a → (f : Fact) (d : Id) (m : ℕ) (links : Links) → In f S → f.body ≡ Join d m links → IsPending S a d m → (l : Id) → is_under S l a ≡ true → (call : Duty) × IsActUnder S l call
 saga_calls S a settled held top f d m links i body p l above =
     let nested = settled.whole.nested in
@@ -111,12 +112,12 @@ saga_calls S a settled held top f d m links i body p l above =
     told : (S : List Fact) (a : Id) (x : Body) (d : Id) (m : ℕ) (links : Links) → x ≡ Join d m links → IsPending S a d m → tells_pending S a x ≡ true
     told S a x d m links e p = ap (tells_pending S a) e ∙ told_pending S a d m links p
 
--- one that is to compensate
+-- the participant is to compensate
 uncompensated : (S : List Fact) (d : Id) (m : ℕ) (links : Links) → links_of S d m ≡ Some links → is_some links.compensate ≡ true → is_pending (heard S d m Compensate) ≡ true → is_uncompensated S d m ≡ true
 uncompensated S d m links joined given pending =
     ap (λ o. option_map_or (λ (x : Links). has_to_compensate x (heard S d m Compensate)) o false) joined ∙ both_true (is_some links.compensate) _ given pending
 
--- one that is to complete is called
+-- a participant that is to complete is called
 completes : (S : List Fact) (l : Id) → IsSettled S → is_held S l ≡ true → (f : Fact) (d : Id) (m : ℕ) (links : Links) → In f S → f.body ≡ Join d m links → IsShown is_open S l d m links → want S d ≡ Some Close → (call : Duty) × IsActUnder S l call
 completes S l settled held f d m links i body shown close =
     let nested = settled.whole.nested in
@@ -141,7 +142,7 @@ pending_by S a d m links f settled i body under cancel l shown =
       pending = uncompensated S d m links (links_joined S f d m links settled.seated i body) has.0 has.1;
     }
 
--- where l, or one above it, is cancelled
+-- a participant is called if l, or an LRA above it, is cancelled
 cancelled_calls : (S : List Fact) (l a : Id) → IsSettled S → is_held S l ≡ true → topmost_cancelled S l ≡ Some a → (f : Fact) (d : Id) (m : ℕ) (links : Links) → In f S → f.body ≡ Join d m links → IsShown is_open S l d m links → (call : Duty) × IsActUnder S a call
 cancelled_calls S l a settled held top f d m links i body shown =
     let nested = settled.whole.nested in
@@ -150,7 +151,7 @@ cancelled_calls S l a settled held top f d m links i body shown =
     let cancel = cancels S d a (topmost_below S nested a tops.own (suc d.num) d (omega arith) under) in
     saga_calls S a settled (held_above S settled.whole a (suc l.num) l (omega arith) tops.under held) tops.own f d m links i body (pending_by S a d m links f settled i body under cancel l shown) a (under_self S nested a)
 
--- where none of its chain is
+-- a participant is called if no LRA of its chain is cancelled
 closing_calls : (S : List Fact) (l : Id) (verdict : Verdict) → IsSettled S → is_held S l ≡ true → want S l ≡ Some verdict → topmost_cancelled S l ≡ None → (f : Fact) (d : Id) (m : ℕ) (links : Links) → In f S → f.body ≡ Join d m links → IsShown is_open S l d m links → (call : Duty) × IsActUnder S l call
 closing_calls S l verdict settled held wants top f d m links i body shown = by (want S d) refl
   where
@@ -187,7 +188,7 @@ closing_calls S l verdict settled held wants top f d m links i body shown = by (
     by (Some Close) close = completes S l settled held f d m links i body shown close
     by (Some Cancel) cancel = cancelled cancel (topmost_cancelled S d) refl
 
--- so one is called, where one is open
+-- so if a participant is open, one is called
 pub open_calls : (S : List Fact) (l : Id) (verdict : Verdict) → IsSettled S → is_held S l ≡ true → want S l ≡ Some verdict → some_shows is_open S l ≡ true → (call : Duty) × IsActUnder S (saga_of S l) call
 open_calls S l verdict settled held wants opened = by (topmost_cancelled S l) refl
   where
@@ -245,7 +246,7 @@ way_open S l way = let is = by way in let x = some_is (want S l) is.1 in record 
 pub way_calls : (S : List Fact) (l : Id) → IsSettled S → IsUnderWay S l → (call : Duty) × IsActUnder S (saga_of S l) call
 way_calls S l settled way = let is = way_open S l way in open_calls S l is.verdict settled is.held is.wants is.opened
 
--- and stands in the list of every view of the set
+-- and the call stands in the list of every view of the set
 pub way_listed : (S : List Fact) (view : View) (l : Id) → IsSettled S → StandsFor S view → IsUnderWay S l → (call : Duty) × In call (duties_of view l.home) × IsActUnder S (saga_of S l) call
 way_listed S view l settled stands way =
     let held = (way_open S l way).held in
@@ -257,12 +258,12 @@ pub way_world : (s : State) (node : ℕ) (l : Id) → IsWorld s → IsNode s nod
 way_world s node l world is way =
     way_calls (set_of s node) l (closed_settled s.history world.lawful (front_of s node) (world.current node is.some is.there).closed) way
 
--- and at its home it stands in that node's list
+-- and at the LRA's home it stands in that node's list
 pub way_home : (s : State) (view : View) (l : Id) → IsWorld s → IsNode s l.home → IsViewOf s.history (front_of s l.home) view → IsUnderWay (set_of s l.home) l → (call : Duty) × In call (duties_of view l.home) × IsActUnder (set_of s l.home) (saga_of (set_of s l.home) l) call
 way_home s view l world is views way =
     way_listed (set_of s l.home) view l (closed_settled s.history world.lawful (front_of s l.home) (world.current l.home is.some is.there).closed) views.stands way
 
--- An LRA ends with that for which it waits
+-- An LRA ends together with the one that it waits for
 
 pub root_alone : (S : List Fact) (l : Id) → IsSettled S → is_root S l ≡ true → saga_of S l ≡ l
 root_alone S l settled root = by (is_decided S Cancel l) refl
@@ -281,7 +282,7 @@ closing_alone S l close = by (topmost_cancelled S l) refl
     by None top = saga_none S l top
     by (Some a) top = absurd (let wrong : Some Close ≡ Some Cancel = sym close ∙ cancels S l a top in cc)
 
--- what is open under an LRA is open under what it is under
+-- a participant that is open under an LRA is open under every LRA above that
 pub open_above : (S : List Fact) → AllByRecursion NamesEarlier S → (a l : Id) → is_under S a l ≡ true → some_shows is_open S l ≡ true → some_shows is_open S a ≡ true
 open_above S nested a l above opened =
     let found = any_gives (λ (f : Fact). shows is_open S l f.body) S opened in
@@ -289,7 +290,7 @@ open_above S nested a l above opened =
     join_shows is_open S a who.0 who.1 who.2 found.0 found.1 who.3
     (record { under = under_goes S nested a l who.0 above who.4.under; stayed = who.4.stayed; passes = who.4.passes })
 
--- what is under an LRA that wants something wants something
+-- an LRA under one that wants something wants something
 pub wants_below : (S : List Fact) (a d : Id) → IsSettled S → is_some (want S a) ≡ true → is_under S a d ≡ true → is_some (want S d) ≡ true
 wants_below S a d settled wants under = by (want S d) refl
   where
@@ -300,7 +301,7 @@ wants_below S a d settled wants under = by (want S d) refl
         let cause = decided_by S a wanted.0 wanted.1 in
         absurd (undecided S d at wanted.0 cause.0 (chain_goes S settled.whole.nested d a cause.0 (under_in S a d under) cause.1) cause.2)
 
--- and has ended where that has
+-- and it has ended if that one has
 pub ended_under : (S : List Fact) (a l : Id) → IsSettled S → is_under S a l ≡ true → is_ended S a ≡ true → is_ended S l ≡ true
 ended_under S a l settled above ended =
     let none : some_shows is_open S a ≡ false = not_false (some_shows is_open S a) (and_right (is_some (want S a)) _ ended) in

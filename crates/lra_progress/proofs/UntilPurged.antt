@@ -34,7 +34,7 @@ use Rattle.lra_progress.proofs.UnderWay.{ended_under, open_calls, root_alone, so
 clash : (b : Bool) → b ≡ true → b ≡ false → ⊥
 clash b e f = let wrong : true ≡ false = sym e ∙ f in cc
 
--- the least of what is due is due
+-- the least participant that is due is due
 least_due_is : (due : List Fact → Id → ℕ → Bool) (S : List Fact) (l : Id) (x : Due) → least_due due S S l ≡ Some x → IsDueBeneath due S l x
 least_due_is due S l x e = by (least_due due S S l) e (least_first due S l S)
   where
@@ -44,7 +44,7 @@ least_due_is due S l x e = by (least_due due S S l) e (least_first due S l S)
         let same : y ≡ x = cc in
         told_is due S l least.0.0.body x (least.0.2 ∙ ap (λ (z : Due). Some z) same)
 
--- a participant in the tree that is called
+-- a participant of the tree is called
 called_under : (S : List Fact) (root d : Id) (kind : Kind) → is_under S root d ≡ true → IsCalled root.home S d kind → (call : Duty) × IsCallUnder S root call
 called_under S root d kind under is = (is.call, record { duty = is.duty; under = ap (is_under S root) is.lra ∙ under })
 
@@ -54,7 +54,7 @@ home_of S root d settled under = under_home S settled.whole.nested root (suc d.n
 held_of : (S : List Fact) (root d : Id) → IsSettled S → is_held S root ≡ true → is_under S root d ≡ true → is_held S d ≡ true
 held_of S root d settled held under = held_below S settled.whole root held (suc d.num) d (omega arith) under
 
--- under an ended root one that was not told of the end is to be told now
+-- under an ended root, a participant that was not told of the end is to be told now
 at_end : (S : List Fact) (root d : Id) → IsSettled S → is_root S root ≡ true → is_ended S root ≡ true → is_under S root d ≡ true → is_at_end S d ≡ true
 at_end S root d settled top ended under =
     let decided : is_root_decided S d ≡ true =
@@ -86,7 +86,7 @@ judged_so : (a b c d e n : Bool) (forget untold : Option Due) (p q r s t u : Ref
     → judged (first (unless a p ∷ unless b q ∷ unless c r ∷ unless d s ∷ unless e t ∷ option_map_or (λ due. Some (StillToForget due.lra due.member)) forget None ∷ option_map_or (λ due. Some (StillToTell due.lra due.member)) untold None ∷ [])) false (unless n u) ≡ Accepted
 judged_so a b c d e n forget untold p q r s t u ea eb ec ed ee en ef eu = rw (ea, eb, ec, ed, ee, en, ef, eu) refl
 
--- where nobody is to forget or to hear of the end, the root is purged
+-- if no participant is to forget or to hear of the end, the root can be purged
 purged : (S : List Fact) (v : List ℕ) (root : Id) → IsCounted S v → is_held S root ≡ true → is_root S root ≡ true → is_ended S root ≡ true → count v root.home < last_number → least_due is_forget_duty S S root ≡ None → least_due is_untold S S root ≡ None → judge S v root.home (Purge root) ≡ Accepted
 purged S v root counted held top ended free forget untold =
     judged_so (is_covered v root) (is_held S root) (root.home == root.home) (is_root S root) (is_ended S root) (nat_lt (count v root.home) last_number) (least_due is_forget_duty S S root) (least_due is_untold S S root) _ _ _ _ _ _
