@@ -18,14 +18,14 @@ use Rattle.lra_world.specs.Worlds.{Acts, Comes, Expires, IfNode, SentFrame, Send
 use Rattle.lra_world.proofs.Moving.{IsKeptBy, node_is, step_keeps}
 use Rattle.lra_trail.specs.NodeTrails.{IsServed, node_of}
 
--- the front of the node is as it was
+-- the front of the node stays as it was
 abbrev Leaves : (me : ℕ) → State → State → Type 0
 Leaves me s t = front_of t me ≡ front_of s me
 
 same_leaves : (me : ℕ) (s t : State) → t ≡ s → Leaves me s t
 same_leaves me s t e = ap (λ (u : State). front_of u me) e
 
--- the front of one of two nodes is changed
+-- the front of one of two nodes is changed, and that of the other is not
 other_front : (s : State) (node me : ℕ) (front : List ℕ) → 1 ≤ node → 1 ≤ me → (node ≡ me → ⊥) → get_or (slice_set s.fronts (node - 1) front) (me - 1) [] ≡ front_of s me
 other_front s node me front some own other = get_or-set_other s.fronts (node - 1) (me - 1) front [] (λ e. other (omega (arith, e, some, own)))
 
@@ -74,11 +74,11 @@ step_leaves s t me (Restart node) reply own other h =
 step_leaves s t me (Tick node now) reply own other h =
     if_node_leaves (is_node s node) s t node me (Ticks s node now reply t) reply refl (λ is k. expires_leave s t node me k.0 reply own other is k.2) h
 
--- a node with another state of the world
+-- a node of one state is a node of another state of the same world
 pub node_still : (s t : State) (me : ℕ) → IsNode s me → IsKeptBy s t → IsNode t me
 node_still s t me is kept = record { some = is.some; there = omega (arith, is.there, kept.grown.nodes) }
 
--- so the view of what it holds is as it was
+-- so the view of what the node holds stays as it was
 pub served_still : (s t : State) (me : ℕ) (a : View) (event : Event) (reply : Reply) → IsServed me s a → (node_of event ≡ me → ⊥) → Steps s event reply t → IsServed me t a
 served_still s t me a event reply served other steps =
     let kept = step_keeps s t event reply served.world steps in

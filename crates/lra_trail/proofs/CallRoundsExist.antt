@@ -39,7 +39,7 @@ use Rattle.lra_trail.proofs.LostCommands.{command_more, sets_end}
 
 -- What answers enter
 
--- it says what an answer to a call says
+-- the fact says what an answer to a call says
 abbrev is_answer : Body → Bool
 is_answer (Report l m act outcome) = true
 is_answer (Forgot l m) = true
@@ -53,7 +53,7 @@ answer_is S Status l m act = refl
 answer_is S Forget l m act = refl
 answer_is S After l m act = refl
 
--- a fact of the greater set is one of the smaller, or the new one
+-- a fact of the greater set is in the smaller one, or is the new fact
 one_or_new : (f : Fact) (S T : List Fact) → IsMore f S T → (x : Fact) → In x T → In x S ⊎ (x ≡ f)
 one_or_new f S T more x i = elim (in_append more.before (f ∷ more.after) x (subst (In x) more.is i)) [
   | inl before ↦ inl (subst (In x) (sym more.was) (in_left more.before more.after x before))
@@ -78,7 +78,7 @@ entered s t node c reply is taken steps = by (is_node s node) (node_so s node is
     by true e h = h.1 ∙ ap (λ (j : Judgement). if_taken j s (with_command s node c)) taken
     by false e h = absurd cc
 
--- what is new after answers are these
+-- the facts that are new after answers are those of the answers
 new_answers : (node : ℕ) (l : Id) (s t : State) (events : List Event) (replies : List Reply) → IsWorld s → IsNode s node → AreAnswers node l s events → Runs s events replies t → (x : Fact) → In x (set_of t node) → In x (set_of s node) ⊎ (is_answer x.body ≡ true)
 new_answers node l s t [] [] world is all runs x i = inl (subst (λ (u : State). In x (set_of u node)) runs i)
 new_answers node l s t [] (reply ∷ replies) world is all runs x i = absurd runs
@@ -164,7 +164,7 @@ module _
       settled : IsSettled T
       settled = closed_settled t.history kept.world.lawful (front_of t node) now
 
-      -- what was under it is so still
+      -- an LRA that was under l is still under it
       under_still : (d : Id) → is_held (set_of s node) d ≡ true → is_under (set_of s node) l d ≡ true → is_under T l d ≡ true
       under_still d held under =
           let begun : is_begun (facts t.history (front_of s node)) d ≡ true = ap (λ (S : List Fact). is_begun S d) same ∙ held_begun (set_of s node) d held in

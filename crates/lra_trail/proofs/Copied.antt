@@ -36,7 +36,7 @@ abbrev front_in : (else_ : List ℕ) → BookReply → List ℕ
 front_in else_ (Gave delta) = delta.front
 front_in else_ reply = else_
 
--- a frame that is given counts what the node holds
+-- a frame that is given counts all that the node holds
 given : (b : View) (delta : Frame) (r : Result (List ℕ) Refusal) → Gave delta ≡ pull_reply b r → delta.front ≡ b.front
 given b delta (Ok front) e = ap (front_in b.front) e
 given b delta (Err refusal) e = absurd cc
@@ -53,7 +53,7 @@ gave_held me now s t a b c items body delta next played =
     let gave = given_front me now c a body delta next in
     subst (λ (v : List ℕ). IsBelow v b.front) (sym (gave.0 ∙ ap (λ (v : View). v.front) (sym gave.1))) (risen me s t a b items played)
 
--- one that is taken is counted
+-- a frame that is taken is then counted
 took_front : (a : View) (delta : Frame) (b : View) → IsTakeReply a delta Took b → IsBelow delta.front b.front
 took_front a delta b (inl (e, takes)) = subst (λ (v : List ℕ). IsBelow delta.front v) (sym takes.taken.front) (below_right a.front delta.front)
 took_front a delta b (inr (refusal, e, why, same)) = absurd cc
@@ -62,7 +62,7 @@ is_taken : (me now : ℕ) (a b : View) (call : Call) (reply : BookReply) (delta 
 is_taken me now a b call reply delta next is took =
     took_front a delta b (subst (λ (c : Call). IsNext me a c now Took b) is (subst (λ (r : BookReply). IsNext me a call now r b) took next))
 
--- from then on
+-- and it is counted from then on
 held_so_far : (me : ℕ) (s : State) (a : View) (items : List Item) (t : State) (b : View) (delta : Frame) → IsServed me s a → LeadsTo me a (trail_of items) b → Happen me s items t → TakesIn (trail_of items) delta → IsBelow delta.front b.front
 held_so_far me s a [] t b delta served legal happen is = absurd is
 held_so_far me s a (Elsewhere event reply ∷ items) t b delta served legal (other, (mid, steps, happen)) is =
@@ -79,7 +79,7 @@ held_so_far me s a (Here entry frame ∷ items) t b delta served (next, first, l
 pub took_held : (me : ℕ) (s t : State) (a b : View) (items : List Item) (delta : Frame) → IsPlayed me s a items t b → TakesIn (trail_of items) delta → IsBelow delta.front b.front
 took_held me s t a b items delta played is = held_so_far me s a items t b delta played.served played.legal played.happen is
 
--- Of more that have a fact than are missed one is heard
+-- If more nodes have a fact than are missed, one of them is heard
 
 record Found (p q : ℕ → Bool) : Type 0 where
   node : ℕ

@@ -1,4 +1,4 @@
--- Servers that are killed go on as servers that are not.
+-- Servers that are killed go on like servers that are not.
 use Rattle.std.proofs.Common.{◌≡◌, ◌==◌, ◌⊎◌, inl, inr, ℕ, List, [], ◌∷◌, refl, sym, subst, Bool, true, false, cond, arith, Option}
 use Rattle.lra_history.specs.Views.{View}
 use Rattle.lra_world.specs.declared.event.Event.{Event}
@@ -17,12 +17,12 @@ use Rattle.lra_trail.proofs.Played.{IsMeant, entry_happens, entry_meant, found_a
 
 -- A turn that goes before others
 
--- what is so of turns that all come: without what each node holds
+-- what holds of turns that can all come, apart from what each node holds
 pub record AreLegal (s : State) (views : ℕ → View) (turns : List Turn) (t : State) (ends : ℕ → View) : Type 0 where
   pub legal : (node : ℕ) → IsNode s node → LeadsTo node (views node) (trail_at node turns) (ends node)
   pub taken : TakeTurns s turns t
 
--- what a turn is, where the world went on
+-- the meaning of a turn, if the world went on
 pub heard_meant : (s : State) (views : ℕ → View) (turn : Turn) (next : View) (mid : State) → AreServed s views → CanBeHeard s (views turn.node) turn next
     → Follows s (event_of turn.node turn.frame turn.entry) mid → IsMeant turn.node s (event_of turn.node turn.frame turn.entry) turn.entry.reply mid next
 heard_meant s views turn next mid served can follows = entry_meant turn.node s turn.frame (views turn.node) next turn.entry mid (served turn.node can.node) can.next can.sent follows
@@ -54,11 +54,11 @@ turn_legal s views turn next mid turns t ends served can follows rest = record {
 
 -- A lost call
 
--- as a turn it can come, if its reply leads to what was found
+-- a lost call can come as a turn, if its reply leads to the view that was found
 lost_heard : (s : State) (a : View) (lost : LostCall) (reply : Reply) → CanBeLost s a lost → IsNext lost.node a lost.asked lost.moment reply lost.found → CanBeHeard s a (turn_of lost reply) lost.found
 lost_heard s a lost reply can next = record { node = can.node; next = next; sent = can.sent reply next }
 
--- where the world is as it was, the view that was found is the one before the call
+-- if the world is as it was, the view that was found is the one before the call
 found_same : (s : State) (a : View) (lost : LostCall) → IsServed lost.node s a → IsServed lost.node s lost.found → lost.found ≡ a
 found_same s a lost before after = same_view s.history (front_of s lost.node) (front_of s lost.node) lost.found a refl after.holds before.holds
 
@@ -84,7 +84,7 @@ record AreKept (s : State) (views : ℕ → View) (happened : List Happening) (t
   legal : AreLegal s views turns t ends
   keeps : Keeps happened turns
 
--- a lost call, where all that happened after it is kept
+-- a lost call is kept, if all that happened after it is kept
 lost_kept : (s : State) (views : ℕ → View) (lost : LostCall) (mid : State) (happened : List Happening) (t : State) (ends : ℕ → View) → AreServed s views → CanBeLost s (views lost.node) lost
     → GoesOn s (views lost.node) lost mid
     → ((u : State) → AreServed u (with_view views lost.node lost.found) → HappenAll u (with_view views lost.node lost.found) happened t ends → AreKept u (with_view views lost.node lost.found) happened t ends)
@@ -145,7 +145,7 @@ crashes_converge s t views ends happened trails =
     let all = crashes_kept s t views ends happened trails in
     answers_converge s t views ends all.0 all.2
 
--- What can come does
+-- What can come next does come
 
 pub lost_goes_on : (s : State) (a : View) (lost : LostCall) → IsServed lost.node s a → CanBeLost s a lost → (t : State) × GoesOn s a lost t
 lost_goes_on s a lost served can =

@@ -92,7 +92,7 @@ after_untold S l m due = by (links_of S l m) (and_right (is_participant S l m) _
 
 -- An answer
 
--- no cancel and no purge is one
+-- an answer is neither a cancel nor a purge
 no_purge : (kind : Kind) (l : Id) (m : ℕ) (act : Act) (root : Id) → answers kind l m act (Purge root) ≡ false
 no_purge Complete l m act root = refl
 no_purge Compensate l m act root = refl
@@ -118,7 +118,7 @@ answer_ends T call (Forgot l m) e = e
 answer_ends T call (Told l m) e = e
 answer_ends T call (Purge root) e = clash (answers call.kind call.id call.member call.act (Purge root)) e (no_purge call.kind call.id call.member call.act root)
 
--- where a call was answered that was due, the answer is new
+-- if a call that was due was answered, the answer is new
 answered_since : (home : ℕ) (S T : List Fact) (call : Duty) → IsDuty home S call → is_answered call.kind T call.id call.member call.act ≡ true → IsEnded S T call
 answered_since home S T call due e = record { fact = new.0; there = new.1; new = new.2; ends = answer_ends T call new.0.body new.3 }
   where
@@ -179,7 +179,7 @@ cancel_is a (Forgot l m) e = absurd cc
 cancel_is a (Told l m) e = absurd cc
 cancel_is a (Purge root) e = absurd cc
 
--- where none passes a test, none passes a stricter one
+-- if no element passes a test, none passes a stricter one
 none_too : (p q : Id → Bool) (xs : List Id) → ((x : Id) → q x ≡ true → p x ≡ true) → last_that p xs ≡ None → last_that q xs ≡ None
 none_too p q [] less e = refl
 none_too p q (x ∷ xs) less e = by (last_that p xs) refl (none_too p q xs less) (p x) refl e
@@ -193,7 +193,7 @@ none_too p q (x ∷ xs) less e = by (last_that p xs) refl (none_too p q xs less)
     by None at rest true is e = absurd cc
     by None at rest false is e = ap (λ (o : Option Id). option_map_or (λ y. Some y) o (cond (q x) (Some x) None)) (rest at) ∙ fails (q x) is refl
 
--- the last that passes a test is the last that passes a stricter one, if it does
+-- the last element that passes a test is the last that passes a stricter one, if it passes that
 last_too : (p q : Id → Bool) (xs : List Id) (a : Id) → ((x : Id) → q x ≡ true → p x ≡ true) → last_that p xs ≡ Some a → q a ≡ true → last_that q xs ≡ Some a
 last_too p q [] a less e passes = absurd cc
 last_too p q (x ∷ xs) a less e passes = by (last_that p xs) refl (last_too p q xs a less) (none_too p q xs less) (p x) e
@@ -215,7 +215,7 @@ pub record IsPurgedBy (S T : List Fact) (l : Id) : Type 0 where
   pub body : fact.body ≡ Purge root
   pub chained : In root (chain T l)
 
--- what was held and isn't was purged since
+-- an LRA that was held and no longer is was purged since
 pub purge_since : (h : History) (v w : List ℕ) → IsGrown h v w → (l : Id) → is_held (facts h v) l ≡ true → is_held (facts h w) l ≡ false → IsPurgedBy (facts h v) (facts h w) l
 purge_since h v w g l held gone =
     let S = facts h v in

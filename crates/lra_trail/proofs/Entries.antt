@@ -44,7 +44,8 @@ use Rattle.lra_trail.specs.NodeTrails.{Arrival, IsServed, IsTold, IsToldAs, Says
 use Rattle.lra_trail.proofs.KeptFrames.{last_numbered}
 use Rattle.lra_trail.proofs.OwnCommands.{Holds, at_node, command_holds, current_of, nodes_in, reply_is, settled_of, there_in, unless_accepted}
 
--- it is nothing, or an event that is replied as the entry says; and then the node holds what its next view is of
+-- an entry means either nothing, or an event with the entry's reply, after which the node holds
+-- what its next view shows
 pub data Means (me : ℕ) (s : State) (frame : Arrival) (now : ℕ) (call : Call) (reply : BookReply) (b : View) : Type 0 where
   Nothing : event_by me frame now call reply ≡ None → Holds me s b → Means me s frame now call reply b
   Something : (event : Event) (is : Reply) (t : State) → event_by me frame now call reply ≡ Some event → node_of event ≡ me → Steps s event is t → Says t reply is → Holds me t b
@@ -71,7 +72,7 @@ entered_means me s frame now a b c reply served is next =
 
 -- Sweeps
 
--- the purge of a sweep is that of a command
+-- the purge of a sweep is the same as that of a command
 as_swept : (me : ℕ) (s : State) (frame : Arrival) (now : ℕ) (b : View) (l : Id) (seen : LraStatus) (r : CommandReply) → Means me s frame now (Enter (Purge l)) (Entered r) b → Means me s frame now (Sweep l seen) (Entered r) b
 as_swept me s frame now b l seen r (Nothing none holds) = Nothing none holds
 as_swept me s frame now b l seen r (Something event is t some node steps says holds) = Something event is t some node steps says holds
@@ -221,7 +222,7 @@ passed true false false d p q r s x y e = absurd cc
 passed true true c d p q r s x y e = absurd cc
 passed false b c d p q r s x y e = absurd cc
 
--- what is asked counts as many nodes
+-- the front that a body asks with counts as many nodes
 pub asked_nodes : (nodes : ℕ) (body front : List ℕ) → asked nodes body ≡ Ok front → length front ≡ nodes
 asked_nodes nodes [] front e = absurd cc
 asked_nodes nodes (count ∷ bytes) front e =

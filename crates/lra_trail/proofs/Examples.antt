@@ -1,4 +1,4 @@
--- What a short trail is in the world.
+-- What a short trail means in the world.
 use Rattle.std.proofs.Common.{◌≡◌, ◌==◌, [], ◌∷◌, inl, refl, None}
 use Rattle.std.specs.Prelude.{List, length}
 use Rattle.lra_id.specs.Ids.{Id}
@@ -28,7 +28,7 @@ other = record { home = 1; num = 7 }
 abbrev frame : Frame
 frame = record { base = 0 ∷ 0 ∷ []; front = 2 ∷ 0 ∷ []; purges = 0 ∷ 0 ∷ []; live = None ∷ None ∷ []; records = [] ∷ [] ∷ [] }
 
--- beside what takes no frame
+-- the arrival that goes with an entry that takes no frame
 abbrev nothing : Arrival
 nothing = record { number = 0; version = Two }
 
@@ -45,11 +45,12 @@ items =
     ∷ Here (entry (Sweep one Cancelled) 9 (Entered Purged)) nothing
     ∷ []
 
--- what is refused, quiet or a question is no event
+-- a refusal, a quiet tick or a question is no event
 happened : events_of 1 items ≡ Act 1 (Begin None 9) ∷ Restart 2 ∷ Tick 1 9 ∷ Send 1 (0 ∷ 0 ∷ []) Two ∷ Act 1 (Purge one) ∷ []
 happened = refl
 
--- a frame that was sent in version 1 is taken as its bytes of version 1 come, and one in version 2 as those of version 2
+-- a frame that was sent in version 1 is taken when its bytes of version 1 arrive, and one in
+-- version 2 when those of version 2 do
 abbrev arrivals : List Item
 arrivals =
     Elsewhere (Send 2 (0 ∷ 0 ∷ []) One) (Sent 1)
@@ -62,7 +63,7 @@ arrived : events_of 1 arrivals
     ≡ Send 2 (0 ∷ 0 ∷ []) One ∷ Deliver 1 1 (length (encoding_as One frame)) ∷ Send 2 (0 ∷ 0 ∷ []) Two ∷ Deliver 2 1 (length (encoding_as Two frame)) ∷ []
 arrived = refl
 
--- five facts of node 1 are at two others, of which one is heard, and its frame is taken
+-- two other nodes have five facts of node 1; one of these nodes is heard, and its frame is taken
 copied : holders 1 5 (0 ∷ 5 ∷ 5 ∷ []) ≡ 2
 copied = refl
 

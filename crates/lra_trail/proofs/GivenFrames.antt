@@ -43,7 +43,7 @@ encoded_told v s number sent delta rules numbered encoded =
       told = one.1;
     }
 
--- what is given keeps the rules of frames
+-- a frame that is given keeps the rules of frames
 
 same_frame : (a : View) (asker : List ℕ) (delta : Frame) → Gave delta ≡ pull_reply a (Ok asker) → delta ≡ frame_of a (meet_fronts asker a.front)
 same_frame a asker delta e = ap frame_in_reply e

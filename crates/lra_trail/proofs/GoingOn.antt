@@ -1,4 +1,4 @@
--- What servers with crashes did goes on with whatever can come next.
+-- What servers did, with crashes, goes on with whatever can come next.
 use Rattle.std.proofs.Common.{◌≡◌, ◌==◌, inl, inr, ℕ, List, [], ◌∷◌, ◌++◌, refl, ap, subst, Bool, true, false, cond, arith, Option, Some, None}
 use Rattle.lra_history.specs.Views.{View}
 use Rattle.lra_world.specs.declared.event.Event.{Event}
@@ -12,7 +12,7 @@ use Rattle.lra_trail.specs.Servers.{AreServed, Turn}
 use Rattle.lra_trail.proofs.Crashing.{crashes_run, lost_goes_on}
 use Rattle.lra_trail.proofs.Played.{entry_happens}
 
--- the world has as many nodes
+-- the world still has as many nodes
 follows_nodes : (s t : State) (o : Option Event) → IsWorld s → Follows s o t → nodes_of t ≡ nodes_of s
 follows_nodes s t None world same = ap nodes_of same
 follows_nodes s t (Some event) world (reply, steps) = (step_keeps s t event reply world steps).grown.nodes
@@ -23,7 +23,7 @@ lost_nodes s t a lost world on = elim on.moved [
   | inr it ↦ follows_nodes s t (event_of lost.node lost.frame (entry lost.asked lost.moment it.0)) world it.2
 ]
 
--- one more happens at the end
+-- one more thing happens at the end
 happen_more : (s t : State) (views ends : ℕ → View) (happened : List Happening) (last : Happening) (u : State) (b : View) → HappenAll s views happened t ends → IsNode t (place_of last)
     → Happens t (ends (place_of last)) last u b → nodes_of u ≡ nodes_of t → HappenAll s views (happened ++ last ∷ []) u (with_view ends (place_of last) b)
 happen_more s t views ends [] last u b (same, same_ends) is happens nodes = (u, (b, here, (refl, ends_are)))

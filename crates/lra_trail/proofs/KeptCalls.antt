@@ -91,7 +91,7 @@ module _
 
 -- A compensation that waits
 
--- one that is to compensate is open
+-- a participant that is to compensate is open
 pub still_open : (links : Links) (a b : Option Outcome) → has_to_compensate links b ≡ true → is_open (status_by (Some Cancel) links a b) ≡ true
 still_open links a b e = by (is_some links.compensate) b (and_left (is_some links.compensate) _ e) (and_right (is_some links.compensate) _ e)
   where
@@ -125,7 +125,7 @@ pub overtaken_waits : (S T : List Fact) (call : Duty) → IsSettled T → (o : I
 overtaken_waits S T call settled o act =
     cancelled_waits T call.id call.member settled (record { held = o.held; wants = cancels T call.id o.top o.cancelled; known = o.known; pending = o.pending act })
 
--- and somebody under the topmost cancelled LRA is called
+-- and a participant under the topmost cancelled LRA is called
 pub next_called : ((T : List Fact) (l : Id) → IsSettled T → IsUnderWay T l → (next : Duty) × IsActUnder T (saga_of T l) next)
     → (S T : List Fact) (call : Duty) → IsSettled T → (o : IsOvertaken S T call) → call.act ≡ CompensateAct → (next : Duty) × IsActUnder T o.top next
 next_called stuck S T call settled o act =

@@ -1,4 +1,4 @@
--- A frame that was sent tells the same from then on.
+-- A frame that was sent says the same from then on.
 use Rattle.std.proofs.Common.{◌≡◌, ◌+◌, ◌-◌, ◌==◌, ◌++◌, ℕ, zero, suc, List, [], ◌∷◌, refl, sym, ap, subst, ◌∙◌, Bool, true, false, cond, arith, Some, None, length, slice_get}
 use Rattle.std.proofs.lemmas.Bool.Decides.{nat_tests}
 use Rattle.lra_facts.specs.declared.fact.Fact.{Fact}
@@ -24,7 +24,7 @@ numbered_still : (b : Bool) (frames more : List SentFrame) (place : ℕ) (frame 
 numbered_still true frames more place frame e = absurd cc
 numbered_still false frames more place frame e = get_more frames more place frame e
 
--- the last one
+-- the last frame has the last number
 pub last_numbered : (frames : List SentFrame) (frame : SentFrame) (number : ℕ) → number ≡ length frames + 1 → cond (number == 0) None (slice_get (frames ++ frame ∷ []) (number - 1)) ≡ Some frame
 last_numbered frames frame number e = by (number == 0) refl
   where

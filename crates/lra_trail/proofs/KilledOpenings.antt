@@ -1,4 +1,4 @@
--- A journal whose openings were stopped has its one view still.
+-- A journal whose openings were stopped still has its one view.
 use Rattle.std.proofs.Common.{◌≡◌, ◌⊎◌, inl, inr, ◌∙◌, ℕ, List, [], ◌∷◌, IsTrue, ap, subst, sym}
 use Rattle.sqlite.specs.Effect.{Database}
 use Rattle.sqlite.specs.Held.{state}
@@ -16,7 +16,7 @@ use Rattle.lra_trail.specs.Upgrades.{AreStopped, IsFoundIn, IsStopped, StoppedOp
 module _
     (one_view : (v : Version) (me : ℕ) (db : Trees) (a b : View) → StandsAs v me db a → StandsAs v me db b → KeepsRulesAs v a → KeepsRulesAs v b → a ≡ b)
     (one_version : (v w : Version) (me : ℕ) (db : Trees) (a b : View) → StandsAs v me db a → StandsAs w me db b → v ≡ w) where
-  -- rows have one view
+  -- rows have only one view
   one_found : (me : ℕ) (db : Trees) (a b : View) → IsFoundIn me db a → IsFoundIn me db b → a ≡ b
   one_found me db a b one other =
       let same = one_version one.version other.version me db a b one.stands other.stands in
@@ -24,7 +24,7 @@ module _
 
   module _ (rewritten : (me : ℕ) (old new : Trees) (view : View) → StandsAs One me old view → KeepsRulesAs One view → IsRewritten me old new → Stands me new view)
       {S : Type 0} (g : Ghosts S) (settled : (s : S) (db : Trees) → IsTrue (g.view s).is_open → g.recovers s db → db ≡ (g.view s).committed) (me nodes : ℕ) where
-    -- rows that were written anew
+    -- rows that were written anew have the same view
     found_anew : (old new : Trees) (view : View) → IsFoundIn me old view → IsRewritten me old new → IsFoundIn me new view
     found_anew old new view found did =
         let first = one_version found.version One me old view did.view found.stands did.before in
@@ -34,7 +34,7 @@ module _
           rules = rules_of_two found.version view found.rules;
         }
 
-    -- after one stop
+    -- the view is the same after one stop
     found_once : (before : Trees) (opening : StoppedOpening S) (view : View) → IsStopped g me nodes before opening → IsFoundIn me before view → IsFoundIn me opening.rows view
     found_once before opening view stopped found = by (stopped.survives.crash stopped.clean opening.rows stopped.may)
       where

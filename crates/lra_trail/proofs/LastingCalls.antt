@@ -34,7 +34,7 @@ some_wanted : (x : Option Verdict) (act : Act) → is_act_wanted x act ≡ true 
 some_wanted None act e = absurd cc
 some_wanted (Some y) act e = (y, refl)
 
--- a call that isn't to act is answered where its participant was told
+-- a call other than to act is answered if its participant was told
 pub forget_answered : (T : List Fact) (call : Duty) → call.kind ≡ Forget → has_forgot T call.id call.member ≡ true → is_answered call.kind T call.id call.member call.act ≡ true
 forget_answered T call is e = ap (λ (k : Kind). is_answered k T call.id call.member call.act) is ∙ e
 
@@ -45,7 +45,7 @@ module _
     (ends_want : (h : History) (v w : List ℕ) (l : Id) → IsLawful h → IsClosed h v → IsClosed h w → IsBelow v w → is_at_end (facts h v) l ≡ true → want (facts h w) l ≡ want (facts h v) l)
     (ends_stay : (h : History) (v w : List ℕ) (l : Id) → IsLawful h → IsClosed h v → IsClosed h w → IsBelow v w → is_at_end (facts h v) l ≡ true → is_at_end (facts h w) l ≡ true)
     (h : History) (v w : List ℕ) (g : IsGrown h v w) (home : ℕ) (call : Duty) (own : call.id.home ≡ home) (held : is_held (facts h w) call.id ≡ true) where
-  -- the same call is due
+  -- the same call is still due
   same_still : (kind : Kind) → call.kind ≡ kind → (of : IsMember h v w g call.id call.member) → is_owed (facts h w) kind call.act call.id call.member ≡ true
       → link_given (facts h v) call.kind call.id call.member ≡ Some call.link → IsKept home (facts h v) (facts h w) call
   same_still kind is of owed linked =
@@ -100,7 +100,7 @@ module _
       right true b e = refl
       right false b e = e
 
-  -- the root of l ended, and so it has in the later set, where l wants the same
+  -- the root of l has ended, and so it has in the later set, in which l wants the same
   record IsOver (l : Id) : Type 0 where
     over : is_over (facts h w) l ≡ true
     wants : want (facts h v) l ≡ want (facts h w) l

@@ -48,7 +48,7 @@ ended_by T call is e =
     by Forget asks e = absurd cc
     by After asks e = absurd cc
 
--- the node's list has those that are due under an LRA of its own
+-- the node's list has each call that is due under an LRA of its own
 listed_under : (node : ℕ) (t : State) (view : View) (l : Id) (next : Duty) → IsServed node t view → l.home ≡ node → IsActUnder (set_of t node) l next → In next (duties_of view node)
 listed_under node t view l next served own due = (listed node t view next served).1 (subst (λ (home : ℕ). IsDuty home (set_of t node) next) own due.duty)
 
@@ -69,9 +69,9 @@ module _ (stuck : (T : List Fact) (l : Id) → IsSettled T → IsUnderWay T l �
       let home = under_home T settled.whole.nested o.top (suc call.id.num) call.id (omega arith) top.under in
       Waits (o.pending is.act) next.0 (listed_under node t view (saga_of T call.id) next.0 served (ap (λ (a : Id). a.home) saga ∙ sym home ∙ own) next.1) next.1
 
-  -- Each, whether it is due or waits
+  -- Each compensation, whether it is due or waits
 
-  -- the one that is called in its saga
+  -- the participant that is called in its saga
   saga_called : (node : ℕ) (t : State) (view : View) (l : Id) (m : ℕ) → IsServed node t view → l.home ≡ node → HasToCompensate (set_of t node) l m
       → (next : Duty) × In next (duties_of view node) × IsActUnder (set_of t node) (saga_of (set_of t node) l) next
   saga_called node t view l m served own has =
@@ -111,7 +111,7 @@ module _ (stuck : (T : List Fact) (l : Id) → IsSettled T → IsUnderWay T l �
   module _
       (ends_want : (h : History) (v w : List ℕ) (l : Id) → IsLawful h → IsClosed h v → IsClosed h w → IsBelow v w → is_at_end (facts h v) l ≡ true → want (facts h w) l ≡ want (facts h v) l)
       (ends_stay : (h : History) (v w : List ℕ) (l : Id) → IsLawful h → IsClosed h v → IsClosed h w → IsBelow v w → is_at_end (facts h v) l ≡ true → is_at_end (facts h w) l ≡ true) where
-    -- whatever happens, and whatever is purged
+    -- the same for whatever happens, and whatever is purged
     run_compensations : (s t : State) (events : List Event) (replies : List Reply) (node : ℕ) (a b : View) (call : Duty) → IsServed node s a → IsServed node t b → Runs s events replies t → In call (duties_of a node)
         → IsToCompensate call → IsNotLost node (set_of t node) b call
     run_compensations s t events replies node a b call before after runs listed_before is =

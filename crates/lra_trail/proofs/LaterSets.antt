@@ -1,4 +1,4 @@
--- What a closed set says of participants, a later one does too.
+-- What a closed set says of participants, a later one says too.
 use Rattle.std.proofs.Common.{◌≡◌, inl, inr, ◌≤◌, ◌&&◌, ◌++◌, ◌+◌, ℕ, List, [], ◌∷◌, refl, sym, ap, subst, ◌∙◌, Bool, true, false, cond, arith, Option, Some, None, is_some, length, map, nat_lt}
 use mathlib.Core.Bool.{not}
 use Rattle.std.proofs.lemmas.Bool.Decides.{nat_tests}
@@ -36,7 +36,7 @@ use Rattle.lra_history.proofs.SettledFacts.{filter_agree}
 pub clash : {A : Type 0} (b : Bool) → b ≡ true → b ≡ false → A
 clash b e f = absurd (let wrong : true ≡ false = sym e ∙ f in cc)
 
--- Of one set
+-- What holds in one set
 
 pub under_in : (S : List Fact) (l d : Id) → is_under S l d ≡ true → In l (chain S d)
 under_in S l d e = let found = any_gives (same_id l) (chain S d) e in subst (λ (x : Id). In x (chain S d)) (sym (same_is l found.0 found.2)) found.1
@@ -62,14 +62,14 @@ leave_asks d m (Forgot l n) e = absurd cc
 leave_asks d m (Told l n) e = absurd cc
 leave_asks d m (Purge l) e = absurd cc
 
--- what ends an act does so with a greater outcome too
+-- an outcome that ends an act still does so if a greater one is heard
 pub pending_before : (a b : Option Outcome) → level a ≤ level b → is_pending b ≡ true → is_pending a ≡ true
 pending_before a b le e = lesser (level a) (level b) le e
   where
     lesser : (m n : ℕ) → m ≤ n → nat_lt n 2 ≡ true → nat_lt m 2 ≡ true
     lesser m n le e = grind (arith, nat_tests)
 
--- it gives a member number of p, and comes before a number
+-- the fact gives a member number of p, and comes before number n
 abbrev gives_before : Id → ℕ → Fact → Bool
 gives_before p n f = gives_number p f.body && nat_lt f.num n
 
@@ -82,7 +82,7 @@ slots_same S T a (x ∷ xs) same = by (same_id x a) (slots_same S T a xs (λ y i
     by true rest slot = refl
     by false rest slot = ap (λ (p : List ℕ). p ++ slot_of S x) rest ∙ ap (λ (p : List ℕ). slots_below T a xs ++ p) slot
 
--- Of two
+-- What holds in two sets
 
 module _ (h : History) (v w : List ℕ) (g : IsGrown h v w) where
   pub inside : IsInside (facts h v) (facts h w)
@@ -99,7 +99,7 @@ module _ (h : History) (v w : List ℕ) (g : IsGrown h v w) where
       let f = join_found (facts h v) d m links at in
       links_joined (facts h w) f.0 d m links settled_later.seated (inside f.0 f.1) f.2
 
-  -- nobody leaves what wants something
+  -- no participant leaves an LRA that wants something
   stayed_kept : (d : Id) (m : ℕ) (x : Verdict) → want (facts h v) d ≡ Some x → has_left (facts h v) d m ≡ false → has_left (facts h w) d m ≡ false
   stayed_kept d m x wanted stayed = false_from (has_left (facts h w) d m) (λ left.
       let leave = any_gives (λ (f : Fact). is_leave d m f.body) (facts h w) left in

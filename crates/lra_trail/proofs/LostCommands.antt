@@ -41,7 +41,7 @@ use Rattle.lra_trail.proofs.LastingCalls.{sets_keep}
 
 -- One command
 
--- what a command leaves: the state as it was, or the command's entry
+-- a command leaves the state as it was, or with the command's entry
 abbrev IsOneCommand : State → ℕ → Command → State → Type 0
 IsOneCommand s node c t = (t ≡ s) ⊎ (t ≡ with_command s node c)
 
@@ -80,7 +80,7 @@ lost_left s t a lost c on asked = elim on.moved [
 
 -- One fact
 
--- the node's set with the command's entry has its fact more
+-- the node's set with the command's entry has one more fact, the command's
 pub command_more : (s : State) (node : ℕ) (c : Command) → IsWorld s → IsNode s node
     → IsMore (record { origin = node; num = count (front_of s node) node + 1; body = body_for (set_of s node) c }) (set_of s node) (set_of (with_command s node c) node)
 command_more s node c world is =
@@ -91,7 +91,7 @@ command_more s node c world is =
     (sym (ap (facts (with_command s node c).history) front))
     (one_more s.history (front_of s node) node (entry_for s.history (front_of s node) c) is.some is.there mine.closed mine.own)
 
--- what is new is that fact
+-- the only new fact is that one
 pub new_fact : (f : Fact) (S T : List Fact) → IsMore f S T → (x : Fact) → In x T → (In x S → ⊥) → x ≡ f
 new_fact f S T more x i new = elim (in_append more.before (f ∷ more.after) x (subst (In x) more.is i)) [
   | inl before ↦ absurd (new (subst (In x) (sym more.was) (in_left more.before more.after x before)))

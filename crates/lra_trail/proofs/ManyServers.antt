@@ -24,18 +24,18 @@ other_node n k e same = never (n == k) (ap (λ (m : ℕ). n == m) (sym same) ∙
     never true e f = absurd cc
     never false e f = absurd cc
 
--- without what follows from there being a run
+-- the run so far, without the claim that what follows from there is a run
 record AreRunSoFar (s : State) (turns : List Turn) (t : State) (ends : ℕ → View) : Type 0 where
   replies : List Reply
   runs : Runs s (events_in turns) replies t
   same : AreTurnReplies t turns replies
   served : AreServed t ends
 
--- the view of one node is another
+-- the views after that of one node was replaced
 abbrev with_view : (ℕ → View) → ℕ → View → ℕ → View
 with_view views node next k = cond (node == k) next (views k)
 
--- what is so after a turn
+-- what holds after a turn
 record IsTurned (s : State) (views : ℕ → View) (turn : Turn) (turns : List Turn) (mid : State) (ends : ℕ → View) : Type 0 where
   next : View
   meant : IsMeant turn.node s (event_of turn.node turn.frame turn.entry) turn.entry.reply mid next

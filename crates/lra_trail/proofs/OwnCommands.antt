@@ -1,4 +1,4 @@
--- A command at a node of the world: by its view and by its set.
+-- A command at a node of the world, judged by the node's view and by its set.
 use Rattle.std.proofs.Common.{◌≡◌, ◌≤◌, ◌<◌, ◌-◌, ◌&&◌, ℕ, List, [], refl, sym, ap, subst, ◌∙◌, Bool, true, false, arith, get_or-set_same, length, nat_le, Some}
 use Rattle.std.proofs.lemmas.Bool.Decides.{nat_tests}
 use Rattle.lra_facts.specs.declared.fact.Fact.{Fact}
@@ -20,7 +20,7 @@ use Rattle.lra_world.specs.Headline.{IsNode}
 use Rattle.lra_world.specs.Worlds.{IfNode, IsViewOf, State, after_command, front_of, if_taken, is_node, nodes_of, reply_at, set_of, with_command}
 use Rattle.lra_trail.specs.NodeTrails.{IsServed, is_accepted}
 
--- Where there is such a node
+-- If there is such a node
 
 pub at_node : (s t : State) (node : ℕ) (happens : Type 0) (reply : Reply) → IsNode s node → happens → IfNode (is_node s node) s happens reply t
 at_node s t node happens reply is h = subst (λ (b : Bool). IfNode b s happens reply t) (sym yes) h
@@ -47,7 +47,7 @@ there_in me s a served = omega (arith, served.node.there, nodes_in me s a served
 
 -- Replies
 
--- what is accepted was entered
+-- a command that is accepted was entered
 accepted_is : (S : List Fact) (v : List ℕ) (node : ℕ) (c : Command) → is_accepted (accepted S v node c) ≡ true
 accepted_is S v node (Begin parent deadline) = refl
 accepted_is S v node (Join l links) = refl
@@ -62,7 +62,7 @@ never_both : (b : Bool) → b ≡ true → b ≡ false → ⊥
 never_both true e f = absurd cc
 never_both false e f = absurd cc
 
--- of what isn't accepted the world is as it was
+-- a command that isn't accepted leaves the world as it was
 pub unless_accepted : (s : State) (me : ℕ) (c : Command) → is_accepted (reply_at s me c) ≡ false → after_command s me c ≡ s
 unless_accepted s me c refused = by (judge (set_of s me) (front_of s me) me c) refused
   where
@@ -84,7 +84,7 @@ judge_is me s a c served =
     judge_view (set_of s me) a me c (is_plain (length a.front) me c served.node.some (there_in me s a served)) (settled_of me s a served) served.holds.stands
     ∙ ap (λ (v : List ℕ). judge (set_of s me) v me c) served.holds.counts
 
--- it is the view of what the node holds in this state
+-- the view is that of what the node holds in this state
 abbrev pub Holds : (me : ℕ) → State → View → Type 0
 Holds me s a = IsViewOf s.history (front_of s me) a
 

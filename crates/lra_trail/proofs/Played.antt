@@ -42,7 +42,7 @@ run_once s t u (event ∷ events) (reply ∷ replies) (other ∷ others) h k =
     let rest = run_once h.0 t u events replies others h.2 (subst (λ (m : State). Runs m events others u) (sym one.state_is) k.2) in
     record { replies_are = ap (λ (r : Reply). r ∷ others) (sym one.reply_is) ∙ ap (λ (rs : List Reply). reply ∷ rs) rest.replies_are; state_is = rest.state_is }
 
--- what is said in a state is said in each later one
+-- what a reply says in a state, it says in each later state
 says_still : (s t : State) (reply : BookReply) (is : Reply) → ((number : ℕ) (delta : Frame) → IsTold s number delta → IsTold t number delta) → Says s reply is → Says t reply is
 says_still s t (Entered r) is still says = says
 says_still s t Took is still says = says
@@ -59,14 +59,14 @@ says_still s t (Refused refusal) is still says = absurd says
 
 -- Step by step
 
--- without what follows from there being a run
+-- the run so far, without the claim that what follows from there is a run
 record IsRunSoFar (me : ℕ) (s : State) (items : List Item) (t : State) (b : View) : Type 0 where
   replies : List Reply
   runs : Runs s (events_of me items) replies t
   same : AreReplies me t items replies
   served : IsServed me t b
 
--- what an entry is, where the world went on
+-- the meaning of an entry, if the world went on
 pub record IsMeant (me : ℕ) (s : State) (o : Option Event) (reply : BookReply) (mid : State) (b : View) : Type 0 where
   pub served : IsServed me mid b
   pub nodes : nodes_of mid ≡ nodes_of s

@@ -100,7 +100,7 @@ purge_moment s t (event ∷ events) (reply ∷ replies) node l world (mid, steps
 
 -- Nobody is called then
 
--- where there is no least, it is due of none
+-- if there is no least participant, the errand is due of none
 none_due : (due : List Fact → Id → ℕ → Bool) (S : List Fact) (root l : Id) (m : ℕ) → is_participant S l m ≡ true → is_under S root l ≡ true → due S l m ≡ true → least_due due S S root ≡ None → ⊥
 none_due due S root l m known under owed none = by (links_of S l m) refl (and_left (is_some (links_of S l m)) _ known)
   where
@@ -114,7 +114,7 @@ none_due due S root l m known under owed none = by (links_of S l m) refl (and_le
         let tells : due_by due S root (Join l m links) ≡ Some (record { lra = l; member = m }) = rw (under, owed) refl in
         first (record { lra = l; member = m }) (join.0, join.1, ap (due_by due S root) join.2 ∙ tells)
 
--- one that is to hear of the end now is untold
+-- a participant that is to hear of the end now has not been told of it
 hears_untold : (S : List Fact) (l : Id) (m : ℕ) → is_after_duty S l m ≡ true → is_untold S l m ≡ true
 hears_untold S l m due = both_true (is_participant S l m) _ (and_left (is_participant S l m) _ due) (by (links_of S l m) (and_right (is_participant S l m) _ due))
   where
@@ -122,7 +122,7 @@ hears_untold S l m due = both_true (is_participant S l m) _ (and_left (is_partic
     by None e = absurd cc
     by (Some links) e = and_right (is_at_end S l) _ e
 
--- an answer is one by each greater set
+-- an answer in one set is an answer in each greater set
 answered_later : (S T : List Fact) (kind : Kind) (l : Id) (m : ℕ) (act : Act) → IsInside S T → is_answered kind S l m act ≡ true → is_answered kind T l m act ≡ true
 answered_later S T kind l m act inside e = by kind e
   where
@@ -187,7 +187,7 @@ module _ (ended_law : (S : List Fact) (l : Id) (call : Duty) → IsSettled S →
           (subst (λ (x : Option Verdict). force x ≤ force (want (set_of t node) call.id)) wants
           (wants_more t.history (front_of moment.mid node) (front_of t node) g call.id (wanted_begun t.history g.lawful (front_of moment.mid node) g.before call.id Cancel wants)))
 
-      -- a compensation that was overtaken is not done, where the root has ended
+      -- a compensation that was overtaken is not done, if the root has ended
       undone : IsOvertaken (set_of s node) (set_of moment.mid node) call → call.act ≡ CompensateAct → ⊥
       undone o act =
           let S = set_of moment.mid node in

@@ -1,4 +1,4 @@
--- A home purges no tree in which somebody is still to compensate.
+-- A home purges no tree in which a participant is still to compensate.
 use Rattle.std.proofs.Common.{◌≡◌, ◌≤◌, ◌<◌, ◌-◌, ◌&&◌, ℕ, List, [], ◌∷◌, refl, sym, ap, subst, ◌∙◌, inl, inr, Bool, true, false, arith, Option, Some, None, get_or-set_other, is_some, length}
 use mathlib.Core.Bool.{not}
 use Rattle.std.specs.List.{list_any}
@@ -49,7 +49,7 @@ use Rattle.lra_trail.proofs.LaterSets.{clash, in_under, member_kept, pending_bef
 use Rattle.lra_trail.proofs.LostCommands.{command_more, new_fact}
 use Rattle.lra_trail.proofs.StillDue.{cancels}
 
--- One that has to compensate, unless it ended that
+-- A participant that has to compensate, unless it has ended that
 
 pub record IsCancelled (S : List Fact) (l : Id) (m : ℕ) : Type 0 where
   pub wants : want S l ≡ Some Cancel
@@ -70,7 +70,7 @@ cancelled_still h v w g l m was =
     no_more (Some Close) le = absurd (omega (arith, le))
     no_more (Some Cancel) le = refl
 
--- where an LRA above has ended, it ended that
+-- if an LRA above has ended, the participant has ended its compensation
 pub ended_above : (S : List Fact) (root l : Id) (m : ℕ) → is_under S root l ≡ true → is_ended S root ≡ true → IsCancelled S l m → is_pending (heard S l m CompensateAct) ≡ false
 ended_above S root l m under ended was = false_from (is_pending (heard S l m CompensateAct)) (λ pending.
     let join = join_found S l m was.links was.joined in
@@ -81,7 +81,7 @@ ended_above S root l m under ended was = false_from (is_pending (heard S l m Com
     clash (some_shows is_open S root) (join_shows is_open S root l m was.links join.0 join.1 join.2 (record { under = under; stayed = stayed; passes = passes }))
     (not_false (some_shows is_open S root) (and_right (is_some (want S root)) _ ended)))
 
--- what is no longer pending isn't later
+-- a compensation that is no longer pending is not pending later
 ended_later : (S T : List Fact) (l : Id) (m : ℕ) → IsInside S T → is_pending (heard S l m CompensateAct) ≡ false → is_pending (heard T l m CompensateAct) ≡ false
 ended_later S T l m inside ends = false_from (is_pending (heard T l m CompensateAct)) (λ pending.
     clash (is_pending (heard S l m CompensateAct)) (pending_before (heard S l m CompensateAct) (heard T l m CompensateAct) (heard_inside S T inside l m CompensateAct) pending) ends)
@@ -114,7 +114,7 @@ module _ (s t : State) (world : IsWorld s) (kept : IsKeptBy s t) (node : ℕ) (i
   pub cancelled_on : (l : Id) (m : ℕ) → IsCancelled (set_of s node) l m → IsCancelled (set_of t node) l m
   cancelled_on l m was = cancelled_still t.history (front_of s node) (front_of t node) grown l m (subst (λ (S : List Fact). IsCancelled S l m) (sym same_set) was)
 
-  -- a purge is of the root's home, so that is what the node entered in this step
+  -- a purge is entered by the root's home, so it is what the node entered in this step
   purge_entered : (l : Id) → l.home ≡ node → IsPurgedBy (facts t.history (front_of s node)) (set_of t node) l → length (entries_of s.history node) < length (entries_of t.history node)
   purge_entered l home purged = elim (at_most e.0.fact.num (count (front_of s node) e.0.fact.origin)) [
     | inl counted ↦ absurd (purged.new (subst (λ (f : Fact). In f (facts t.history (front_of s node))) (sym e.2) (in_facts t.history (front_of s node) e.0 e.1 counted)))
@@ -155,7 +155,7 @@ module _ (s t : State) (world : IsWorld s) (kept : IsKeptBy s t) (node : ℕ) (i
       subst (IsLawfulBody (set_of s node) (front_of s node) node) body (accepted_lawful (set_of s node) (front_of s node) node c taken) in
       lawful_gives (set_of s node) (front_of s node) node (PurgeAsked purged.root) lawful.accepted
 
-  -- so an LRA that is gone after this step is of a tree whose purge the node accepted
+  -- so an LRA that is gone after this step was in a tree whose purge the node accepted
   pub step_purges : (l : Id) → l.home ≡ node → IsMove s t → is_held (set_of s node) l ≡ true → is_held (set_of t node) l ≡ false → IsPurging s node l
   step_purges l home move held gone = by move
     where
@@ -219,7 +219,7 @@ run_gone s t (event ∷ events) (reply ∷ replies) node l m world (mid, steps, 
 
 -- A call that is due
 
--- it asks one that has to compensate
+-- the call asks a participant that has to compensate
 pub due_cancelled : (home : ℕ) (S : List Fact) (call : Duty) → IsDuty home S call → IsToCompensate call → IsCancelled S call.id call.member
 due_cancelled home S call due is = top (topmost_cancelled S call.id) refl (by call.kind is.asks (sym (ap (λ (a : Act). is_owed S call.kind a call.id call.member) is.act) ∙ due.owed))
   where
@@ -243,7 +243,7 @@ due_cancelled home S call due is = top (topmost_cancelled S call.id) refl (by ca
         joined (cancels S call.id a at) (and_left (is_participant S call.id call.member) _ test) (links_of S call.id call.member) refl
         (and_left (is_uncompensated S call.id call.member) _ (and_right (is_participant S call.id call.member) _ test))
 
--- One that has to compensate
+-- A participant that has to compensate
 
 pub has_cancelled : (S : List Fact) (l : Id) (m : ℕ) → HasToCompensate S l m → IsCancelled S l m
 has_cancelled S l m has = by (links_of S l m) refl has.pending

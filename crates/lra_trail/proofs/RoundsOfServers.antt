@@ -1,4 +1,5 @@
--- From each state servers can make a round: each is asked for a frame since nothing, and each takes them all.
+-- From each state the servers can make a round: each is asked for a frame since nothing, and each
+-- takes all these frames.
 use Rattle.std.proofs.Common.{◌≡◌, ◌≤◌, ◌*◌, ◌-◌, ◌||◌, inl, inr, ◌==◌, ℕ, zero, suc, List, [], ◌∷◌, ◌++◌, Ok, refl, sym, ap, subst, ◌∙◌, Bool, true, false, cond, arith, Option, Some, length, min, replicate, slice_index}
 use Rattle.std.proofs.lemmas.List.{length-replicate}
 use Rattle.lra_id.specs.Fronts.{IsBelow, count, meet_fronts}
@@ -87,7 +88,7 @@ asks_for_all (suc (suc (suc (suc (suc (suc (suc zero))))))) some few = refl
 asks_for_all (suc (suc (suc (suc (suc (suc (suc (suc zero)))))))) some few = refl
 asks_for_all (suc (suc (suc (suc (suc (suc (suc (suc (suc n))))))))) some few = absurd (omega (arith, few))
 
--- no front has less
+-- the common part of the front of nothing and any front is the front of nothing
 meets_nothing : (n : ℕ) (v : List ℕ) → length v ≡ n → meet_fronts (replicate n 0) v ≡ replicate n 0
 meets_nothing zero [] e = refl
 meets_nothing zero (x ∷ v) e = absurd cc
@@ -103,7 +104,7 @@ nothing_below n v node = let none : count (replicate n 0) node ≡ 0 = none_at n
     none_at (suc k) (suc i) = none_at k i
 
 module _ (s : State) (views : ℕ → View) where
-  -- turns that lead on from here, and enter nothing
+  -- turns that lead on from here and enter nothing
   record HasTurns : Type 0 where
     turns : List Turn
     state : State
@@ -115,7 +116,7 @@ module _ (s : State) (views : ℕ → View) where
   node_there : (p : HasTurns) (k : ℕ) → IsNode s k → IsNode p.state k
   node_there p k is = record { some = is.some; there = omega (arith, is.there, ap (λ (h : History). length h) p.history) }
 
-  -- the one has all calls of the other, and its frames
+  -- the second has all calls of the first, and its frames
   record IsFurther (p q : HasTurns) : Type 0 where
     calls : (k : ℕ) (call : Call) (reply : Reply) → HasCall (trail_at k p.turns) call reply → HasCall (trail_at k q.turns) call reply
     told : (number : ℕ) (frame : Frame) → IsTold p.state number frame → IsTold q.state number frame
@@ -126,7 +127,7 @@ module _ (s : State) (views : ℕ → View) where
   further_on : (p q r : HasTurns) → IsFurther p q → IsFurther q r → IsFurther p r
   further_on p q r one other = record { calls = λ k call reply has. other.calls k call reply (one.calls k call reply has); told = λ number frame is. other.told number frame (one.told number frame is) }
 
-  -- one turn more, which enters nothing
+  -- one more turn, which enters nothing
   record HasMore (p : HasTurns) (turn : Turn) (b : View) : Type 0 where
     next : HasTurns
     further : IsFurther p next
@@ -175,7 +176,7 @@ module _ (s : State) (views : ℕ → View) where
 
   -- What nodes give
 
-  -- it gave a frame since nothing
+  -- the node gave a frame since nothing
   record IsGiven (p : HasTurns) (from : ℕ) : Type 0 where
     frame : Frame
     asked_for : List ℕ
@@ -197,7 +198,7 @@ module _ (s : State) (views : ℕ → View) where
         base = given.base;
       }
 
-  -- each of the first so many nodes gave one, and their views are as they were
+  -- each of the first n nodes gave a frame, and their views are as they were
   record HaveGiven (n : ℕ) : Type 0 where
     now : HasTurns
     same : (k : ℕ) → now.ends k ≡ views k
@@ -213,7 +214,7 @@ module _ (s : State) (views : ℕ → View) where
     counts : (k : ℕ) → IsNode s k → length (views k).front ≡ nodes_of s
     counts k is = ap (λ (v : List ℕ). length v) (served k is).holds.counts ∙ ((served k is).world.current k is.some is.there).closed.nodes
 
-    -- it is given to a pull
+    -- a pull is answered with such a frame
     gives : (n : ℕ) → IsNode s n → (a : View) → a ≡ views n → IsNext n a (Pull (for_all (nodes_of s))) 0 (Gave (given_by n)) a
     gives n is a same =
         subst (λ (v : View). IsNext n v (Pull (for_all (nodes_of s))) 0 (Gave (given_by n)) v) (sym same) (
@@ -230,7 +231,7 @@ module _ (s : State) (views : ℕ → View) where
         (grammar_law s.history (front_of s n) (replicate (nodes_of s) 0) (views n) world.lawful (world.current n is.some is.there).closed (served n is).holds.stands
         (length-replicate {A = ℕ} (nodes_of s) 0 ∙ sym (counts n is)) (nothing_below (nodes_of s) (views n).front))
 
-    -- one more gives
+    -- one more node gives a frame
     gives_more : (n : ℕ) → IsNode s (suc n) → HaveGiven n → HaveGiven (suc n)
     gives_more n is before =
         record {
@@ -317,7 +318,7 @@ module _ (s : State) (views : ℕ → View) where
               shape = some.2;
             }
 
-    -- the one gave a frame, and the other took it
+    -- one node gave a frame, and another took it
     record IsToldTo (p : HasTurns) (from to : ℕ) : Type 0 where
       frame : Frame
       asked_for : List ℕ
@@ -336,7 +337,7 @@ module _ (s : State) (views : ℕ → View) where
     abbrev AllGiven : HasTurns → Type 0
     AllGiven p = (from : ℕ) → 1 ≤ from → from ≤ nodes_of s → IsGiven p from
 
-    -- one node took the frames of the first so many
+    -- one node took the frames of the first n nodes
     record HasTaken (p : HasTurns) (to n : ℕ) : Type 0 where
       now : HasTurns
       further : IsFurther p now
@@ -374,7 +375,7 @@ module _ (s : State) (views : ℕ → View) where
     takes_all p to zero given is few = record { now = p; further = same_turns p; each = λ from some none. absurd (omega (arith, some, none)) }
     takes_all p to (suc n) given is few = takes_more p to n given is few (takes_all p to n given is (omega (arith, few)))
 
-    -- the first so many nodes took the frames of all
+    -- the first n nodes took the frames of all
     record HaveHeard (p : HasTurns) (n : ℕ) : Type 0 where
       now : HasTurns
       further : IsFurther p now

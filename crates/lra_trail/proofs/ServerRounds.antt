@@ -40,7 +40,7 @@ use Rattle.lra_trail.specs.ServerRounds.{HasCall, IsServerRound}
 use Rattle.lra_trail.specs.Servers.{AreOneRun, AreTrails, Turn, events_in, trail_at}
 use Rattle.lra_trail.proofs.ManyServers.{answers_converge, one_run}
 
--- A call takes nothing from the front
+-- A call never lowers the front
 
 itself : (v : List ℕ) → IsBelow v v
 itself v = λ n. omega arith
@@ -145,7 +145,7 @@ took_below me a (e ∷ es) b frame now (mid, next, legal) (inr later) = took_bel
 
 -- A round
 
--- what is told is counted at the end
+-- a frame that is taken is counted at the end
 heard_below : (to : ℕ) (a : View) (turns : List Turn) (end : View) (frame : Frame) → LeadsTo to a (trail_at to turns) end → HasCall (trail_at to turns) (Take frame) Took ⊎ IsBelow frame.front end.front → IsBelow frame.front end.front
 heard_below to a turns end frame legal (inl took) = took_below to a (trail_at to turns) end frame took.0 legal took.1
 heard_below to a turns end frame legal (inr counts) = counts
@@ -168,7 +168,7 @@ module _ (s t : State) (views ends : ℕ → View) (turns : List Turn) (trails :
       subst (λ (v : List ℕ). IsBelow v (front_of t to)) (trails.served from one).holds.counts
       (subst (IsBelow (views from).front) (served to other).holds.counts (further (views from).front tells.frame.front (ends to).front gave took))
 
-  -- each node counts at the end what each had entered before
+  -- at the end each node counts what every node had entered before
   pub servers_bring : (node from : ℕ) → IsNode s node → IsNode s from → length (entries_of s.history from) ≤ count (ends node).front from
   servers_bring node from is giver =
       subst (λ (v : List ℕ). length (entries_of s.history from) ≤ count v from) (sym (served node is).holds.counts) (brings s t trails.world kept all_hear node from is giver)
@@ -181,7 +181,7 @@ module _ (s t : State) (views ends : ℕ → View) (turns : List Turn) (trails :
     servers_alike one other is too =
         (answers_converge s t views ends turns trails).equal one other (took_all s t one other trails.world kept still all_hear is too)
 
--- without a command and a tick nothing is entered
+-- if there is no command and no tick, nothing is entered
 pub servers_quiet : (s t : State) (views ends : ℕ → View) (turns : List Turn) → AreTrails s views turns t ends → list_any may_enter (events_in turns) ≡ false → t.history ≡ s.history
 servers_quiet s t views ends turns trails quiet =
     let run = one_run s t views ends turns trails in

@@ -1,4 +1,4 @@
--- What was due of a participant is due still, unless something was entered that takes its place.
+-- What was due of a participant is still due, unless something was entered that takes its place.
 use Rattle.std.proofs.Common.{◌≡◌, ◌⊎◌, inl, inr, ◌≤◌, ◌&&◌, ℕ, suc, List, refl, sym, ap, subst, ◌∙◌, Bool, true, false, cond, arith, Option, Some, None, is_some}
 use mathlib.Core.Bool.{not}
 use Rattle.std.specs.List.{list_any}
@@ -44,11 +44,11 @@ some_of (Some x) e = (x, refl)
 
 -- Wants
 
--- what has a topmost cancelled LRA wants Cancel
+-- an LRA that has a topmost cancelled LRA wants Cancel
 pub cancels : (S : List Fact) (l a : Id) → topmost_cancelled S l ≡ Some a → want S l ≡ Some Cancel
 cancels S l a top = let some : list_any (is_decided S Cancel) (chain S l) ≡ true = last_some (is_decided S Cancel) (chain S l) a top in rw some refl
 
--- and what wants Cancel has one
+-- and an LRA that wants Cancel has one
 pub top_of : (S : List Fact) (l : Id) → want S l ≡ Some Cancel → (a : Id) × (topmost_cancelled S l ≡ Some a)
 top_of S l wanted = by (topmost_cancelled S l) refl
   where
@@ -61,7 +61,7 @@ top_of S l wanted = by (topmost_cancelled S l) refl
     by None at = absurd (never (list_any (is_decided S Cancel) (chain S l)) _ (last_none (is_decided S Cancel) (chain S l) at) wanted)
     by (Some a) at = (a, at)
 
--- one that is asked to complete is one of an LRA that closes
+-- a participant that is asked to complete is of an LRA that closes
 closes : (x : Option Verdict) (o : Option Links) → option_map_or (λ links. demands x links CompleteAct) o false ≡ true → x ≡ Some Close
 closes x None e = absurd cc
 closes None (Some links) e = absurd cc
@@ -98,7 +98,7 @@ owed_status : (T : List Fact) (act : Act) (l : Id) (m : ℕ) → is_act_due act 
 owed_status T CompleteAct l m due asks = both_true (is_complete_duty T l m) _ due asks
 owed_status T CompensateAct l m due asks = both_true (is_compensation_due T l m) _ due asks
 
--- how a participant is called that is to act: for the act, or for its status, if it is busy
+-- how a participant that is to act is called: for the act, or for its status if it is busy
 abbrev IsCalledFor : List Fact → Act → Duty → Type 0
 IsCalledFor S act call = (call.kind ≡ kind_of_act act) ⊎ ((call.kind ≡ Status) × (asks_status S call.id call.member act ≡ true))
 
@@ -107,7 +107,7 @@ asks_for S CompleteAct call (inl k) = ap asks_to_act k
 asks_for S CompensateAct call (inl k) = ap asks_to_act k
 asks_for S act call (inr (k, asks)) = ap asks_to_act k
 
--- the answer to such a call is that the act ended
+-- such a call is answered by the end of its act
 act_answered : (S T : List Fact) (act : Act) (call : Duty) → IsCalledFor S act call → call.act ≡ act → is_pending (heard T call.id call.member act) ≡ false → is_answered call.kind T call.id call.member call.act ≡ true
 act_answered S T act call so is ends = by call.kind (asks_for S act call so)
   where
@@ -148,7 +148,7 @@ made : (nested : Bool) → has_to_forget nested Compensated ≡ true → ⊥
 made true e = absurd cc
 made false e = absurd cc
 
--- what has something to forget has so with greater outcomes too
+-- a participant that has something to forget still has it after greater outcomes
 pub forgets_still : (nested : Bool) (x : Option Verdict) (links : Links) (a b c d : Option Outcome) → level a ≤ level c → level b ≤ level d → has_to_forget nested (status_by x links a b) ≡ true → has_to_forget nested (status_by x links c d) ≡ true
 forgets_still nested None links a b c d p q e = e
 forgets_still nested (Some Close) links a b c d p q e = by (is_some links.complete) a c p e
@@ -177,7 +177,7 @@ forgets_still nested (Some Cancel) links a b c d p q e = by (is_some links.compe
     by true (Some Failed) (Some Done) p e = absurd (omega (arith, p))
     by true (Some Failed) (Some Failed) p e = e
 
--- Of two sets
+-- What holds in two sets
 
 module _ (h : History) (v w : List ℕ) (g : IsGrown h v w) (home : ℕ) (call : Duty) (own : call.id.home ≡ home) (held : is_held (facts h w) call.id ≡ true) where
   -- Calls to act
@@ -189,7 +189,7 @@ module _ (h : History) (v w : List ℕ) (g : IsGrown h v w) (home : ℕ) (call :
       (and_left (is_busy (heard (facts h v) call.id call.member act)) _ asks))
       (ap (λ (o : Option Links). option_map_or (λ (x : Links). is_some x.status) o false) (of.after ∙ sym of.before) ∙ and_right (is_busy (heard (facts h v) call.id call.member act)) _ asks)
 
-  -- one that is to act still is called so, or asked for its status
+  -- a participant that is still to act is called for the act, or asked for its status
   act_still : (act : Act) → call.act ≡ act → IsCalledFor (facts h v) act call → (of : IsMember h v w g call.id call.member) → is_pending (heard (facts h w) call.id call.member act) ≡ true
       → is_some (link_for (kind_of_act act) of.links) ≡ true → is_act_due act (facts h w) call.id call.member ≡ true → IsKept home (facts h v) (facts h w) call
   act_still act is so of pending given due = by (asks_status (facts h w) call.id call.member act) refl
@@ -261,7 +261,7 @@ module _ (h : History) (v w : List ℕ) (g : IsGrown h v w) (home : ℕ) (call :
 
   -- To compensate
 
-  -- what holds it back in the later set held it back before
+  -- what holds the compensation back in the later set held it back before
   back_before : (a : Id) → topmost_cancelled (facts h v) call.id ≡ Some a → topmost_cancelled (facts h w) call.id ≡ Some a → (f : Fact) → In f (facts h w) → (body : Body) → f.body ≡ body
       → holds_back (facts h w) a (saga_path (facts h w) call.id call.member) body ≡ true → In f (facts h v) × (holds_back (facts h v) a (saga_path (facts h v) call.id call.member) body ≡ true)
   back_before a top later f i (Join d m links) body e =
