@@ -13,11 +13,11 @@ use Rattle.sqlite_value.specs.Keys.{ascending}
 use Rattle.lra_id.specs.Ids.{last_number}
 use Rattle.lra_journal.specs.FrontRows.{number_in}
 
--- the number that is read of one that is kept
+-- the number that is read back is the one that was kept
 pub number_back : (n : ℕ) → n ≤ last_number → number_in (Int (pos n)) ≡ Some n
 number_back n low = let small : nat_le n last_number ≡ true = grind (arith, nat_tests, low) in rw small refl
 
--- the one below is the lesser number
+-- the lower value is the lesser number
 pub int_below : (m n : ℕ) → value_cmp (Int (pos m)) (Int (pos n)) ≡ Less → m < n
 int_below m n e = let below : int_cmp (pos m) (pos n) ≡ Less = sym (value_cmp-Int (pos m) (pos n)) ∙ e in grind (arith, nat_tests, below)
 
@@ -26,15 +26,15 @@ then_less Less e = refl
 then_less Equal e = e
 then_less Greater e = e
 
--- by one number
+-- the order by one number
 abbrev pub by_one : List Key
 by_one = ascending Binary ∷ []
 
--- by two numbers, one after the other
+-- the order by two numbers, one after the other
 abbrev pub by_two : List Key
 by_two = ascending Binary ∷ ascending Binary ∷ []
 
--- of two rows with one first number, the one below has the lesser second number
+-- of two rows with the same first number, the lower one has the lesser second number
 pub second_below : (x y : Row) (h m n : ℕ) → column x 0 ≡ Int (pos h) → column y 0 ≡ Int (pos h) → column x 1 ≡ Int (pos m) → column y 1 ≡ Int (pos n) → key_cmp 0 by_two x y ≡ Less → m < n
 second_below x y h m n a b c d less =
     let shown : ordering_then (value_cmp (Int (pos h)) (Int (pos h))) (ordering_then (value_cmp (Int (pos m)) (Int (pos n))) Equal) ≡ Less = rw (a, b, c, d) at less in

@@ -1,4 +1,5 @@
--- A view that rows are of keeps the rules by which they are read, and so does the view of no facts.
+-- A view that rows stand for keeps the rules by which they are read, and so does the view of no
+-- facts.
 use Rattle.std.proofs.Common.{inl, inr, ◌≡◌, ℕ, ◌<◌, ◌≤◌, ◌-◌, ◌^◌, suc, zero, List, length, sym, subst, arith}
 use Rattle.std.proofs.lemmas.Bool.{cases_lt}
 use Rattle.std.proofs.lemmas.List.{length-replicate}
@@ -22,7 +23,7 @@ use Rattle.lra_journal.proofs.EmptyTables.{empty_at, none_held}
 use Rattle.lra_journal.proofs.RowsStand.{number_is, ruled}
 use Rattle.lra_journal.proofs.ToldViews.{no_count}
 
--- the counts that rows tell have 48 bits
+-- the counts that rows say have 48 bits
 small_in : (v : Version) (me : ℕ) (rows : List Row) (front purges : List ℕ) → AreFronts v me rows front purges → (place : ℕ) → count front (suc place) < 2 ^ 48
 small_in v me rows front purges are place = elim (cases_lt place (length front)) [
   | inl within ↦ let said = are.each (suc place) (omega arith) (omega (arith, within)) in omega (arith, (number_is (column said.0 1) (count front (suc place)) said.2.first).1)
@@ -37,7 +38,7 @@ pub keeps_rules : (v : Version) (me : ℕ) (db : Trees) (rows lra_rows : List Ro
 keeps_rules v me db rows lra_rows view formed lras are few shape =
     record { few = few; small = small v me rows view.front view.purges are.fronts; records = ruled v me db rows lra_rows view formed lras are; shape = shape }
 
--- what keeps the rules of either version keeps those of version 2
+-- a view that keeps the rules of either version keeps those of version 2
 pub rules_of_two : (v : Version) (view : View) → KeepsRulesAs v view → KeepsRules view
 rules_of_two One view rules = record { few = rules.few; small = rules.small; records = λ r held. record_first view.front r (rules.records r held); shape = rules.shape }
 rules_of_two Two view rules = rules

@@ -1,4 +1,4 @@
--- Rows that stand for a view which keeps the rules break the format at no place.
+-- Rows that stand for a view which keeps the rules break the format nowhere.
 use Rattle.std.proofs.Common.{inl, inr, ℕ, ◌≤◌, List, length, sym, subst}
 use Rattle.sqlite.specs.Order.{Row}
 use Rattle.sqlite.specs.Tree.{Trees}

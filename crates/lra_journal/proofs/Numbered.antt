@@ -1,4 +1,4 @@
--- What is numbered, and rises by its numbers, stands at the place of its number.
+-- Elements that are numbered, and rise by their numbers, stand at the places of their numbers.
 use Rattle.std.proofs.Common.{◌≡◌, inl, inr, ℕ, zero, suc, ◌+◌, ◌<◌, ◌≤◌, List, [], ◌∷◌, length, Some, refl, ap, arith}
 use Rattle.std.specs.Prelude.{slice_get}
 use Rattle.sqlite.specs.Tree.{IsAscending}
@@ -11,13 +11,13 @@ module _ {X : Type 0} (number : X → ℕ) where
     pub has : Has xs x
     pub is : number x ≡ n
 
-  -- they are numbered from the first on, so many of them, and rise by their numbers
+  -- `count` elements, numbered from the first number on, which rise by their numbers
   pub record AreNumberedFrom (first count : ℕ) (xs : List X) : Type 0 where
     pub rise : IsAscending (λ a b. number a < number b) xs
     pub within : (x : X) → Has xs x → (first ≤ number x) × (number x < first + count)
     pub each : (n : ℕ) → first ≤ n → n < first + count → IsWith xs n
 
-  -- the first has the first number
+  -- the first element has the first number
   first_is : (first count : ℕ) (x : X) (xs : List X) → AreNumberedFrom first (suc count) (x ∷ xs) → number x ≡ first
   first_is first count x xs are = by (are.each first (omega arith) (omega arith))
     where
@@ -41,7 +41,7 @@ module _ {X : Type 0} (number : X → ℕ) where
       later n above y (inl same) is = absurd (omega (arith, ap number same, is, above))
       later n above y (inr has) is = record { x = y; has = has; is = is }
 
-  -- they are so many
+  -- there are `count` of them
   pub count_is : (first count : ℕ) (xs : List X) → AreNumberedFrom first count xs → length xs ≡ count
   count_is first zero [] are = refl
   count_is first (suc count) [] are = absurd (are.each first (omega arith) (omega arith)).has

@@ -32,14 +32,14 @@ one_said rows n held purged held' purged' a b =
     let second = sym says.second ∙ b.2.second in
     (cc, cc)
 
--- a number is that of one version
+-- two versions with the same number are the same
 pub same_mark : (v w : Version) → version_mark v ≡ version_mark w → v ≡ w
 same_mark One One e = refl
 same_mark Two Two e = refl
 same_mark One Two e = absurd (omega (arith, e))
 same_mark Two One e = absurd (omega (arith, e))
 
--- the first row says one version
+-- the first row tells only one version
 pub one_version : (v w : Version) (me : ℕ) (rows : List Row) (front purges front' purges' : List ℕ) → AreFronts v me rows front purges → AreFronts w me rows front' purges' → v ≡ w
 one_version v w me rows front purges front' purges' left right = same_mark v w (one_said rows 0 me (version_mark v) me (version_mark w) left.own right.own).1
 
@@ -61,7 +61,7 @@ module _ (v w : Version) (me : ℕ) (rows : List Row) (front purges front' purge
 abbrev AreUnder : Version → List ℕ → View → Type 0
 AreUnder v front view = (r : Record) → IsHeld view r → IsRecordUnderAs v front r
 
--- a record of one is one of the other
+-- a record of one view is one of the other
 carried : (v : Version) (me : ℕ) (db : Trees) (front : List ℕ) (a b : View) → StandsAs v me db a → StandsAs v me db b → AreUnder v front a → AreUnder v front b → (r : Record) → IsHeld a r → IsHeld b r
 carried v me db front a b left right under_a under_b r held =
     let has : HasLra db r.home (signed r.num) (record_text_as v r) = (left.lra r.home (signed r.num) (record_text_as v r)).1 (record { kept = r; held = held; at_home = refl; numbered = refl; encoded = refl }) in
@@ -78,7 +78,7 @@ num_is l r is = grind (arith, nat_tests, is)
 id_is : (l : Id) (r : Record) → r.home ≡ l.home → r.num ≡ l.num → id_of r ≡ l
 id_is l r home num = ap (λ h. record { home = h; num = r.num }) home ∙ ap (λ (n : ℕ). record { home = l.home; num = n }) num
 
--- so each LRA that has a record in one has it in the other
+-- so each LRA that has a record in one view has it in the other
 carried_at : (a b : View) → ((r : Record) → IsHeld a r → IsHeld b r) → (l : Id) (r : Record) → record_at a l ≡ Some r → record_at b l ≡ Some r
 carried_at a b carries l r found =
     let is = (find_in (is_of l) (records_at a.records l.home) r found).1 in
@@ -90,7 +90,7 @@ same_option None None f g = refl
 same_option None (Some r) f g = g r refl
 same_option (Some r) y f g = sym (f r refl)
 
--- rows stand for one view, where records keep the rules under its front
+-- rows stand for one view only, if records keep the rules under its front
 pub one_view : (v : Version) (me : ℕ) (db : Trees) (a b : View) → a.front ≡ b.front → a.purges ≡ b.purges → StandsAs v me db a → StandsAs v me db b
     → ((r : Record) → IsHeld a r → IsRecordUnderAs v a.front r) → ((r : Record) → IsHeld b r → IsRecordUnderAs v b.front r) → a ≡ b
 one_view v me db a b fronts purges left right under_a under_b =

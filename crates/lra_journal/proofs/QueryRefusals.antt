@@ -1,4 +1,4 @@
--- Why one of the two SELECTs fails: memory is wanting, or the database refuses.
+-- Why one of the two SELECTs fails: memory runs out, or the database refuses.
 use Rattle.std.proofs.Common.{◌≡◌, ◌⊎◌, inl, inr, ℕ, List, [], true, false, Option, None, Ok, Err, Result, IsTrue, nat_le, length, refl, sym, ap, subst, subst₂, ◌∙◌, arith, append-nil}
 use Rattle.std.specs.Prelude.{IfErr, IsSome}
 use Rattle.sqlite_disk.specs.Disk.{MoreFaults}
@@ -96,7 +96,7 @@ lra_flows : (db : Trees) → ¬ ProgramOverflows db [] [] [] lra_query
 lra_flows db (inl none) = none
 lra_flows db (inr some) = some.4
 
--- a database with these tables refuses them only for the steps that they take
+-- a database with these tables refuses the SELECTs only for the steps that they take
 front_limits : (e : Error) (limit : Option ℕ) (db : Database) → db.schema ≡ journal_schema → RefusesQuery limit db (program front_query) [] e → IsSome limit
 unfolding everything
 front_limits e limit db has (inl mistyped) = absurd (true≢false (rw has at mistyped.1))

@@ -17,7 +17,7 @@ use Rattle.lra_journal.specs.Tables.{GoesOn, IsWriting, SetsFront, signed}
 use Rattle.lra_journal.specs.Turns.{InTurn}
 use Rattle.lra_journal.proofs.Chain.{goes_then}
 
--- the rows of the first of these records were written, and those are left
+-- the rows of the first records were written, and the others are left
 pub record IsSoFar (all left : List Record) (old new : State) : Type 0 where
   pub done : List Record
   pub split : done ++ left ≡ all
@@ -41,7 +41,7 @@ one_home_more [] home = append-nil home.records
 one_home_more (h ∷ homes) home =
     ap (λ (rs : List Record). h.records ++ rs) (one_home_more homes home) ∙ sym (append_assoc h.records (records_of homes) home.records)
 
--- a row of one home is refused, once those of the homes before it were written
+-- a row of one home is refused, after those of the homes before it were written
 pub refused_within : (homes : List HomeRecords) (i : ℕ) (item : HomeRecords) (old mid : Trees) → take (i + 1) homes ≡ take i homes ++ item ∷ []
     → InTurn MakesRow (records_of (take i homes)) old mid → RefusesOneOf item.records mid → RefusesOneOf (all_records (records_in homes)) old
 refused_within homes i item old mid next made refused =

@@ -27,7 +27,7 @@ use Rattle.lra_journal.proofs.ChangedViews.{same_home, same_num, same_from}
 use Rattle.lra_journal.proofs.RowsStand.{found_in}
 use Rattle.lra_journal.proofs.StandsLemmas.{key_or_not, signed_same}
 
--- the version of the row of an LRA, where those of these records were written anew
+-- the version of an LRA's row, if the rows of the records in `done` were written anew
 abbrev version_at : List Record → Id → Version
 version_at done l = cond (list_any (λ (r : Record). same_id (id_of r) l) done) Two One
 
@@ -46,7 +46,7 @@ record StandsSoFar (me : ℕ) (db : Trees) (view : View) (done : List Record) : 
   front : (origin : ℕ) (held purged : ℤ) → HasFront db origin held purged ↔ IsFrontOf One me view origin held purged
   lra : (home : ℕ) (num : ℤ) (body : List ℕ) → HasLra db home num body ↔ IsRowIn done view home num body
 
--- two records of a view with the same id are one
+-- two records of a view with the same id are the same
 one_held : (view : View) (a b : Record) → IsHeld view a → IsHeld view b → same_id (id_of a) (id_of b) ≡ true → b ≡ a
 one_held view a b held other same =
     let home = same_home (id_of a) (id_of b) same in
@@ -118,7 +118,7 @@ module _ (me : ℕ) (db next : Trees) (view : View) (done : List Record) (r : Re
     lra = λ h n b. (row_of h n b, of_row h n b);
   }
 
-  -- what was written anew before still is
+  -- a row that was written anew before still is
   still : (x : Id) → version_at done x ≡ Two → version_at (r ∷ done) x ≡ Two
   still x e = by (same_id (id_of r) x) refl
     where
@@ -126,7 +126,7 @@ module _ (me : ℕ) (db next : Trees) (view : View) (done : List Record) (r : Re
       by true same = rw same refl
       by false apart = other x apart ∙ e
 
--- ---- all of them are
+-- ---- all records are written anew
 
 record AreRewritten (me : ℕ) (db : Trees) (view : View) (before records : List Record) : Type 0 where
   done : List Record
@@ -178,7 +178,7 @@ listed_held view whole r has =
     let own : r.home ≡ it.place + 1 = all_in (λ (q : Record). q.home ≡ it.place + 1) (records_at view.records (it.place + 1)) order.homes r there in
     found_in r.home (records_at view.records r.home) r (subst (λ h. AreOf h (records_at view.records h)) (sym own) order) (subst (λ h. In r (records_at view.records h)) (sym own) there)
 
--- ---- the version of all
+-- ---- the version of all rows
 
 module _ (me : ℕ) (db next : Trees) (view : View) (stands : StandsAs One me db view) (did : Rewrites me view.records db next) where
   so_far : StandsSoFar me db view []
@@ -236,13 +236,13 @@ module _ (me : ℕ) (db next : Trees) (view : View) (stands : StandsAs One me db
         );
   }
 
--- so it is where a transaction did that
+-- so the rows stand for the view after a transaction that did that
 pub rewritten_ok : {A E : Type 0} (me : ℕ) (old new : State) (view : View) (result : Result A E) → StandsAs One me old.now.trees view
     → OnOk result (IsJournal new × Rewrites me view.records old.now.trees new.now.trees) → OnOk result (IsJournal new × Stands me new.now.trees view)
 rewritten_ok me old new view (Ok done) stands did = (did.0, rewritten me old.now.trees new.now.trees view stands did.1)
 rewritten_ok me old new view (Err e) stands did = tt
 
--- and what a stop may leave besides what it left before
+-- and what a stop may leave, in addition to what it left before
 pub rewritten_crash : (me : ℕ) (old new : State) (view : View) → Survives old new (λ _. IsTrue old.is_open)
     → Survives old new (λ db. IsJournal old → Rewrites me view.records old.now.trees db)
     → Survives old new (λ db. IsTrue old.is_open × (IsJournal old → StandsAs One me old.now.trees view → Stands me db view))

@@ -1,4 +1,4 @@
--- The rows of `front` that are listed are right, where they stand for a view that keeps the rules.
+-- The listed rows of `front` are right, if they stand for a view that keeps the rules.
 use Rattle.std.proofs.Common.{◌≡◌, ℕ, zero, suc, ◌+◌, ◌<◌, ◌≤◌, ℤ, pos, negsuc, List, map, length, refl, ap, subst, ◌∙◌, arith, is_eq, Less, Equal}
 use Rattle.std.specs.Ordering.{ordering_then}
 use Rattle.std.specs.List.Sorted.{IsStrictlySortedBy}
@@ -29,7 +29,7 @@ use Rattle.lra_journal.proofs.Numbered.{AreNumberedFrom, IsWith, at_place, count
 use Rattle.lra_journal.proofs.Rising.{ascends, distinct_shown, rises}
 use Rattle.lra_journal.proofs.RowsStand.{signed_is}
 
--- the number in a column that has one
+-- the number in a column, if it has one
 abbrev number_of : Value → ℕ
 number_of Null = 0
 number_of (Int (pos n)) = n
@@ -46,7 +46,7 @@ mark_small One = omega arith
 mark_small Two = omega arith
 
 module _ (v : Version) (me : ℕ) (db : Trees) (rows : List Row) (view : View) (low : me ≤ 8) (tables : AreTables db) (stands : StandsAs v me db view) (rules : KeepsRulesAs v view) (listed : AreFrontRows db rows) where
-  -- a row that is listed is that of a row of the table
+  -- a listed row shows a row of the table
   record IsOf (row : Row) : Type 0 where
     pub origin : ℕ
     pub held : ℤ
@@ -73,7 +73,7 @@ module _ (v : Version) (me : ℕ) (db : Trees) (rows : List Row) (view : View) (
       let w = of_row b q in
       rw (u.is, w.is) (int_below u.origin w.origin (then_less _ (rw (u.is, w.is) at less))))
 
-  -- each origin from 0 to the count of the nodes has its row
+  -- each origin from 0 up to the number of nodes has its row
   has_origin : (n : ℕ) → n ≤ length view.front → (held : ℤ) × (purged : ℤ) × HasFront db n held purged
   has_origin zero within = (pos me, pos (version_mark v), (stands.front 0 (pos me) (pos (version_mark v))).1 (refl, refl))
   has_origin (suc i) within =
@@ -104,7 +104,7 @@ module _ (v : Version) (me : ℕ) (db : Trees) (rows : List Row) (view : View) (
     each = λ n above within. row_of n (omega (arith, within));
   }
 
-  -- what the row of an origin says stands at its place
+  -- the row of an origin is listed at its place
   said_at : (n held purged : ℕ) → n ≤ length view.front → held ≤ last_number → purged ≤ last_number → ((h p : ℤ) → IsFrontOf v me view n h p → (h ≡ pos held) × (p ≡ pos purged)) → IsSaid rows n held purged
   said_at n held purged within first second says =
       let it = at_place origin_of 0 (length view.front + 1) rows numbered n (omega (arith, within)) in
@@ -134,7 +134,7 @@ module _ (v : Version) (me : ℕ) (db : Trees) (rows : List Row) (view : View) (
     all = count_is origin_of 0 (length view.front + 1) rows numbered;
   }
 
--- rows that are those of the nodes are right at each place
+-- if the rows are those of the nodes, they are right at each place
 pub right_at : (v : Version) (me : ℕ) (rows : List Row) (front purges : List ℕ) → AreFronts v me rows front purges → (place : ℕ) → IsFrontRight me (length front) rows place
 right_at v me rows front purges are place = record {
   own = λ first. (v, are.own);

@@ -1,4 +1,4 @@
--- The rows of `lra` that are listed are right, where they stand for a view that keeps the rules.
+-- The listed rows of `lra` are right, if they stand for a view that keeps the rules.
 use Rattle.std.proofs.Common.{◌≡◌, ℕ, ◌<◌, ◌≤◌, pos, Bool, true, false, List, [], ◌∷◌, map, length, get_or, Some, refl, sym, ap, subst, ◌∙◌, arith, is_eq, Ordering, Less, Equal, Greater}
 use Rattle.std.specs.Prelude.{slice_get}
 use Rattle.std.specs.Ordering.{eq_by_cmp, ordering_then}
@@ -34,7 +34,7 @@ use Rattle.lra_journal.proofs.Members.{has_mapped, has_permuted}
 use Rattle.lra_journal.proofs.Rising.{distinct_shown, rises}
 use Rattle.lra_journal.proofs.RowsStand.{number_is, signed_is}
 
--- two orders, one after the other, that are tied are each tied
+-- if two comparisons, one after the other, tie, each of them ties
 both_tied : (o p : Ordering) → is_eq (ordering_then o (ordering_then p Equal)) ≡ true → (o ≡ Equal) × (p ≡ Equal)
 both_tied Equal Equal e = (refl, refl)
 both_tied Equal Less e = absurd (cc)
@@ -42,7 +42,7 @@ both_tied Equal Greater e = absurd (cc)
 both_tied Less p e = absurd (cc)
 both_tied Greater p e = absurd (cc)
 
--- ---- no two rows have one key
+-- ---- no two rows have the same key
 
 module _ (db : Trees) (formed : IsFormed db) where
   same_form : (a b : Row) (f : IsLraRow a) (g : IsLraRow b) → eq_by_cmp (key_cmp 0 by_two) (lra_shown a) (lra_shown b) ≡ true → (column a 1 ≡ column b 1) × (column a 2 ≡ column b 2)
@@ -83,7 +83,7 @@ module _ (v : Version) (me : ℕ) (db : Trees) (rows : List Row) (view : View) (
   row_of row kept rule shown =
       rw shown (record { key = record { home = number_back kept.home (home_small kept rule); num = number_back kept.num (num_small kept rule) }; body = refl; rules = rule })
 
-  -- a row that is listed is that of a record of the view
+  -- a listed row is that of a record of the view
   of_row : (row : Row) → Has rows row → IsOfRecord row
   of_row row has =
       let r = has_mapped lra_shown (db lra_tree) row (has_permuted (map lra_shown (db lra_tree)) rows row listed.each has) in
@@ -95,7 +95,7 @@ module _ (v : Version) (me : ℕ) (db : Trees) (rows : List Row) (view : View) (
       r.2 ∙ ap lra_shown form.is ∙ ap (λ h. Int (pos h) ∷ Int form.num ∷ Blob form.body ∷ []) it.at_home ∙ ap (λ n. Int (pos it.kept.home) ∷ Int n ∷ Blob form.body ∷ []) num ∙ ap (λ b. Int (pos it.kept.home) ∷ Int (pos it.kept.num) ∷ Blob b ∷ []) it.encoded in
       record { kept = it.kept; is = row_of row it.kept rule shown }
 
-  -- those before it have lesser numbers
+  -- the records before it have lesser numbers
   in_order : (i place : ℕ) (row : Row) (kept other : Record) → i < place → slice_get rows place ≡ Some row → IsRowOf v view.front row kept → IsRowAt v view.front rows i other → other.home ≡ kept.home → other.num < kept.num
   in_order i place row kept other before there is at same =
       let less = Less-from_sorted (key_cmp 0 by_two) rows i place [] strict before (slice_get_within rows place row there) in

@@ -1,4 +1,4 @@
--- Rows that are in order rise, where no two have one key.
+-- Rows that are in order rise, if no two have the same key.
 use Rattle.std.proofs.Common.{◌≡◌, inl, inr, ◌+◌, List, [], ◌∷◌, map, get_or, false, refl, sym, ap, ◌∙◌, arith, Ordering, Less, Equal, Greater, is_eq, is_lt}
 use Rattle.std.specs.Prelude.{IsPermutation, IsSorted}
 use Rattle.std.specs.Cmp.{IsTotalOrder}
@@ -15,7 +15,7 @@ use Rattle.sqlite_rules.proofs.ListLemmas.{all_from, all_has}
 use Rattle.sqlite_trees.proofs.ListLemmas.{all-map}
 
 module _ (R : Row → Row → Ordering) (total : IsTotalOrder R) where
-  -- of two rows the first is below, if it is neither above nor tied
+  -- the first of two rows is lower if it is neither higher nor tied
   below : (x y : Row) → is_lt (R y x) ≡ false → eq_by_cmp R x y ≡ false → R x y ≡ Less
   below x y after apart = by (R x y) refl
     where
@@ -29,7 +29,7 @@ module _ (R : Row → Row → Ordering) (total : IsTotalOrder R) where
       let differ = IsDistinct-IsPermutation (eq_by_cmp R) (eq_by_cmp_equiv total).symm xs ys same apart in
       sorted_from_all_adjacent total ys [] (λ k within. below (get_or ys k []) (get_or ys (k + 1) []) (sorted k [] (omega arith) within) (apart_from_distinct (eq_by_cmp R) ys k (k + 1) [] differ (omega arith) within))
 
-  -- rows that are kept in an order, and shown with keys that differ
+  -- rows that are kept in an order and shown with different keys
   pub distinct_shown : (S : Row → Row → Type 0) (show : Row → Row) (rows : List Row) → IsAscending S rows → ((a b : Row) → Has rows a → Has rows b → S a b → eq_by_cmp R (show a) (show b) ≡ false)
       → IsDistinct (eq_by_cmp R) (map show rows)
   unfolding IsDistinct
@@ -39,7 +39,7 @@ module _ (R : Row → Row → Ordering) (total : IsTotalOrder R) where
     distinct_shown S show rows up.1 (λ a b p q. apart a b (inr p) (inr q)),
   )
 
-  -- what follows of rows that rise
+  -- what follows if rows rise
   pub ascends : (S : Row → Row → Type 0) (rows : List Row) → IsStrictlySortedBy R rows → ((a b : Row) → Has rows a → Has rows b → R a b ≡ Less → S a b) → IsAscending S rows
   unfolding IsStrictlySortedBy
   ascends S [] up follows = tt

@@ -1,4 +1,5 @@
--- Of views that keep the rules rows stand for one at most, and the views of a lawful history keep them.
+-- Rows stand for at most one view that keeps the rules, and the views of a lawful history keep
+-- them.
 use Rattle.std.proofs.Common.{◌≡◌, inl, inr, ℕ, zero, suc, ◌+◌, ◌-◌, ◌<◌, ◌≤◌, ◌^◌, pos, List, [], get_or, length, refl, replicate, sym, subst, ◌∙◌, arith}
 use Rattle.std.specs.Int.{w64}
 use Rattle.std.proofs.Math.Facts.{to_z_pos}

@@ -1,4 +1,4 @@
--- Why one of the two statements that write a row fails, and what it makes where it doesn't.
+-- Why one of the two statements that write a row fails, and what it does otherwise.
 use Rattle.std.proofs.Common.{◌≡◌, ◌≢◌, ◌≤◌, ◌⊎◌, inl, inr, ℕ, List, [], ◌∷◌, true, false, Some, None, Ok, Err, Result, IsTrue, nat_le, length, refl, sym, ap, subst, ◌∙◌, arith, append-nil}
 use Rattle.sqlite_disk.specs.Disk.{MoreFaults}
 use Rattle.std.proofs.lemmas.Bool.{true≢false}
@@ -34,7 +34,7 @@ use Rattle.sqlite.specs.Held.{Held, state}
 use Rattle.sqlite_trees.specs.declared.store.Store.{Ghosts}
 use Rattle.lra_journal.proofs.Texts.{put_front_is, put_lra_is}
 
--- the text is one statement with so many parameters, which writes rows by INSERT .. ON CONFLICT
+-- the text is one statement with `count` parameters, which writes rows by INSERT .. ON CONFLICT
 abbrev IsWholeOf : List ℕ → ℕ → Result Compiled CompileError → Type 0
 IsWholeOf sql count (Ok c) = (nat_le (length sql) c.tail ≡ true) × (length c.names ≡ count)
 IsWholeOf sql count (Err e) = ⊥
@@ -157,13 +157,13 @@ module _ (old new : State) (a b c : Value) (has : old.now.schema ≡ journal_sch
   pub front_refused : (e : Error) → IsTrue old.is_open → ExecutesInside 0 put_front (a ∷ b ∷ c ∷ []) old new (Err e) → FailsFor e old.faults new.faults (IsRefusedOn put_front (a ∷ b ∷ c ∷ []) old.now.trees)
   front_refused e on = refused put_front old new (a ∷ b ∷ c ∷ []) _ _ _ _ has free put_front_is front_plain e on front_whole
 
--- ---- in what follows
+-- ---- a fault in a sequence of steps
 
--- a fault behind the first of two steps is one behind both
+-- a fault in the second of two steps is a fault in both together
 pub more_since : (a b c : ℕ) → a ≤ b → MoreFaults b c → MoreFaults a c
 more_since a b c up more = omega (arith, up, more)
 
--- and one before the last of them is, too
+-- and so is a fault in the first of them
 pub more_until : (a b c : ℕ) → b ≤ c → MoreFaults a b → MoreFaults a c
 more_until a b c up more = omega (arith, up, more)
 
@@ -172,12 +172,12 @@ failed_since e a b c P Q up then (inl memory) = inl memory
 failed_since e a b c P Q up then (inr (inl more)) = inr (inl (more_since a b c up more))
 failed_since e a b c P Q up then (inr (inr why)) = inr (inr (then why))
 
--- a SELECT before them fails for the first two of these alone
+-- a SELECT before them fails only for the first two of these causes
 pub asked_first : (e : Error) (a b : ℕ) (P : Type 0) → (e ≡ SqliteFailure code.OutOfMemory) ⊎ MoreFaults a b → FailsFor e a b P
 asked_first e a b P (inl memory) = inl memory
 asked_first e a b P (inr more) = inr (inl more)
 
--- and leaves the transaction as it was
+-- and it leaves the transaction as it was
 pub writing_still : (old new : State) → IsWriting old → IsTrue new.is_open → new.in_transaction ≡ true → new.now ≡ old.now → IsWriting new
 writing_still old new was still inside same = record {
   is_open = still;
@@ -186,7 +186,7 @@ writing_still old new was still inside same = record {
   formed = subst (λ (d : Database). IsFormed d.trees) (sym same) was.formed;
 }
 
--- ---- in a transaction that has begun, and behind it
+-- ---- in a transaction that has begun, and after it
 
 module _ {S : Type 0} (g : Ghosts S) (c b : Held S) where
   pub begun_writing : b ≡ record c { in_transaction = true } → IsJournal (state g c) → IsWriting (state g b)
@@ -204,7 +204,7 @@ module _ {S : Type 0} (g : Ghosts S) (c b : Held S) where
       later (inr (inl more)) = inr (inl (more_until _ mid new up more))
       later (inr (inr why)) = inr (inr why)
 
--- and told as E18 it has one of the other two causes
+-- and if it is reported as E18, it has one of the other two causes
 pub told_so : (refusal : Refusal) (e : Error) (a b : ℕ) (P : Type 0)
     → ((refusal ≡ NoMemory) × (e ≡ SqliteFailure code.OutOfMemory)) ⊎ ((refusal ≡ JournalFailed) × (e ≢ SqliteFailure code.OutOfMemory))
     → refusal ≡ JournalFailed → FailsFor e a b P → MoreFaults a b ⊎ P

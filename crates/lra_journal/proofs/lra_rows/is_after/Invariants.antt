@@ -3,7 +3,7 @@ use Rattle.std.specs.List.{AllByRecursion}
 use Rattle.lra_forest.specs.declared.record.Record.{Record}
 use Rattle.lra_journal.proofs.lra_rows.is_after.Given as goal
 
--- all are lesser if those are that are left, and only then
+-- all records are lesser exactly if those that are left are
 abbrev pub invariant-loop-record : goal.invariant-loop-record
 invariant-loop-record l =
     let lesser = AllByRecursion (λ (q : Record). q.num < l.num) in

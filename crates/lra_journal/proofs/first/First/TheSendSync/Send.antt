@@ -1,4 +1,4 @@
--- It owns nothing, so it may go to another thread.
+-- A `First` owns nothing, so it may go to another thread.
 use denote.RattleType.{RattleType}
 use denote.Param.Send.{IsSend, owning_send, sendable}
 use Rattle.sqlite_trees.specs.declared.store.Store.{Ghosts}

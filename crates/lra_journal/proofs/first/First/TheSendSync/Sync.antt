@@ -1,4 +1,4 @@
--- It owns nothing, so threads may share it.
+-- A `First` owns nothing, so threads may share it.
 use denote.RattleType.{RattleType}
 use denote.Param.Send.{IsSend, IsSync, owning_send, part_keyless, sendable}
 use Rattle.sqlite_trees.specs.declared.store.Store.{Ghosts}
