@@ -76,7 +76,7 @@ asked_final (Some Cancel) links CompensateAct a b e p = let given : is_some link
     by (Some Done) p = refl
     by (Some Failed) p = refl
 
--- a participant that is open although something is wanted is asked for the wanted act, and has not
+-- a participant that is open when something is wanted is asked for the wanted act, and has not
 -- ended it
 pub open_closing : (links : Links) (a b : Option Outcome) → is_open (status_by (Some Close) links a b) ≡ true → (is_some links.complete ≡ true) × (is_pending a ≡ true)
 open_closing links a b e = by (is_some links.complete) a e

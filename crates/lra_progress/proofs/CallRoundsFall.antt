@@ -1,4 +1,4 @@
--- after a round of calls, at most one less are open than were to compensate
+-- after a round of calls, at most as many are open as were to compensate, less one
 use Rattle.std.proofs.Common.{◌≡◌, inl, inr, ◌≤◌, ◌<◌, ◌-◌, ◌&&◌, ℕ, zero, suc, List, [], ◌∷◌, refl, sym, ap, subst, ◌∙◌, Bool, true, false, cond, arith, filter, is_some, length, Option, Some, None}
 use mathlib.Core.Bool.{not}
 use Rattle.std.specs.List.{list_any, AllByRecursion}

@@ -45,7 +45,7 @@ items =
     ∷ Here (entry (Sweep one Cancelled) 9 (Entered Purged)) nothing
     ∷ []
 
--- a refusal, a quiet tick or a question is no event
+-- a refused call, a quiet call or a question is no event
 happened : events_of 1 items ≡ Act 1 (Begin None 9) ∷ Restart 2 ∷ Tick 1 9 ∷ Send 1 (0 ∷ 0 ∷ []) Two ∷ Act 1 (Purge one) ∷ []
 happened = refl
 
