@@ -37,7 +37,7 @@ HOMES = range(1, NODES + 1)
 # How a server ends whose first journal is refused.
 JOURNAL = "\njournal 1\n"
 # What may be told while a disk is full.
-OF_DISK = {"E18 JournalFailed", "E19 Stopped", "its journal can't be opened again yet"}
+OF_DISK = {"E18 JournalFailed", "E19 Stopped", "can't open its journal again yet"}
 
 
 def begin_until_gone(server: Server, node: int, part: Participant, noted: Notes) -> None:

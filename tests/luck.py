@@ -230,7 +230,7 @@ class TestLuck(checks.Checked):
         time.sleep(1.5)
         seen = group.told(1, "/ready")
         self.check("it waits for them", seen == (503, {"ready": False, "cause": "behind"}), seen)
-        line = f"node 1: node 2 says that it has {1 << 40} facts of this node, which are more than the journal here has"
+        line = f"node 1: node 2 claims to have {1 << 40} facts of this node, more than the journal here has"
         told = comes_to(15, lambda: any(one.startswith(line) for one in group.lines(1)))
         self.check("it says for whom", told, group.log(1))
         group.start(2)
@@ -286,14 +286,14 @@ class TestLuck(checks.Checked):
         os.mkdir(folder)
         request_json(group, 1, "POST", "/lra")
         limit_files(group.processes[1], -1)
-        line = "node 1: its journal can't be opened again yet: its file is gone"
+        line = "node 1: can't open its journal again yet: the file is gone"
         self.check("it tells that the file is gone", comes_to(10, lambda: line in group.lines(1)), group.log(1))
         time.sleep(1.5)
         self.check("it makes none", os.listdir(folder) == [], os.listdir(folder))
         seen = request_json(group, 1, "POST", "/lra")
         self.check("and takes no command", seen == (503, {"refused": "E19 Stopped"}), seen)
         copy(backup, folder)
-        line = "node 1: its journal can't be opened again yet: the file there has fewer facts than the one before"
+        line = "node 1: can't open its journal again yet: the file has fewer facts than the one before"
         self.check("it takes no older file", comes_to(10, lambda: line in group.lines(1)), group.log(1))
         shutil.rmtree(folder)
         shutil.move(away, folder)
@@ -331,11 +331,11 @@ class TestLuck(checks.Checked):
                    group.told(1, "/ready"))
         took = self.slowest_health(group)
         self.check(f"beside questions that wait for it it says after {took:.1f} s at most that it is well", took < 3)
-        hangs = re.compile(r"node 1: a call has waited for its journal for \d+ s: the disk hangs, or is slow")
+        hangs = re.compile(r"node 1: a call has waited \d+ s for the journal: the disk is slow, or hangs")
         self.check("it tells it", comes_to(5, lambda: any(map(hangs.fullmatch, group.lines(1)))), group.log(1))
         os.remove(flag)
         self.check("it goes on", comes_to(10, lambda: group.at(1, "/ready").status == 200))
-        again = re.compile(r"node 1: its journal answers again, after \d+ s")
+        again = re.compile(r"node 1: the journal answers again, after \d+ s")
         self.check("and tells that", comes_to(5, lambda: any(map(again.fullmatch, group.lines(1)))), group.log(1))
 
     def slowest_health(self, group: Operated) -> float:
@@ -669,14 +669,14 @@ class TestLuck(checks.Checked):
         group = self.group(3, "group=shop", kind=Misled)
         group.start()
         lra = group.begin(1)
-        wanted = "node 1: node {} isn't there: another node answers, or one of another group"
+        wanted = "node 1: node {} isn't at its address: another node answers there, or one of another group"
         self.check("its own address is told",
                    comes_to(15, lambda: wanted.format(2) in group.lines(1)), group.log(1))
         self.check("node 3 hears node 1", group.comes_to(3, lra, "Active") is not None)
         other = self.group_in("other", 3, "group=travel")
         other.addresses = [group.addresses[0], other.addresses[1], other.addresses[2]]
         other.start(2)
-        line = "node 2: node 1 isn't there: another node answers, or one of another group"
+        line = "node 2: node 1 isn't at its address: another node answers there, or one of another group"
         self.check("another group's node is told", comes_to(15, lambda: line in other.lines(2)), other.log(2))
         self.check("and isn't taken", other.shown(2) == {}, other.shown(2))
         plain = self.group_in("plain", 3)

@@ -31,7 +31,7 @@ from tools.version import build_said
 
 USAGE = b"usage: lra_member I|I-J DIR [listen=IP:PORT] [operate=IP:PORT] [names=NAME,..] [keep=MS] [keep-failed=MS] " \
         b"[group=NAME] [copies=K] [patience=MS] [strict] [anew] HOST:PORT.. | --version\n"
-NO_FOLDER = b"node 2: its journal can't be opened: there is no folder, or no right to it, or no file is left\n" \
+NO_FOLDER = b"node 2: can't open its journal: the folder is missing, permission is denied, or no file descriptor is left\n" \
             b"journal 2\n"
 # LRAs with their statuses.
 Shown = dict[str, str]
@@ -279,7 +279,7 @@ class TestMembers(checks.Checked):
         own, other, third, fourth = free_row(4)
         with socket.create_server(("127.0.0.1", own)):
             ran = self.run_with("1", self.folder, f"h:{own}")
-        wanted = 1, f"node 1: port {own} can't be had: it is in use\nport {own}\n".encode()
+        wanted = 1, f"node 1: can't listen on port {own}: it is in use\nport {own}\n".encode()
         self.check("a port in use", (ran.returncode, ran.stderr) == wanted, ran)
         # The last node may have the last port for operators.
         for given in (
@@ -296,7 +296,7 @@ class TestMembers(checks.Checked):
         self.check("the page has three commands", len(lines) == 3, lines)
         for line in lines:
             ran = self.run_with(*line.replace("/var/lib/lra", f"{self.folder}/none").split())
-            is_so = ran.returncode == 1 and b"there is no folder" in ran.stderr
+            is_so = ran.returncode == 1 and b"the folder is missing" in ran.stderr
             self.check(f"OPERATING: lra_member {line}", is_so, ran)
         every = ["keep=0", "keep-failed=18446744073709551615"]
         with self.node("1", self.folder, f"listen=0.0.0.0:{third}", *every, f"elsewhere:{fourth}") as node:
@@ -432,7 +432,7 @@ class TestMembers(checks.Checked):
             self.skipTest("this machine is too slow for the rest")
         self.check(f"over an older journal what is begun at once has a new number ({in_ms(took)})", new not in known,
                    (new, known))
-        line = "node 2: node %d has more facts of this node: the journal here is older"
+        line = "node 2: node %d has more facts of this node: the journal here is an older copy"
         seen = comes_to(30, lambda: any(line % node in group.lines(2) for node in (1, 3)))
         self.check("it tells that its journal is older", seen, group.log(2))
         self.check("it has taken back what the others know",
@@ -467,8 +467,8 @@ class TestMembers(checks.Checked):
             begun.append(group.begin(1))
             late.append(group.comes_to(2, begun[-1], "Active") or SLOW)
         self.check(f"they hold up no other ({in_ms(max(late))} at most)", max(late) < 5, late)
-        misled = "isn't there: another node answers, or one of another group"
-        how = {**dict.fromkeys((3, 5, 6), "gives no frame"), 4: "can't be reached", 7: misled}
+        misled = "isn't at its address: another node answers there, or one of another group"
+        how = {**dict.fromkeys((3, 5, 6), "doesn't answer with a frame"), 4: "can't be reached", 7: misled}
         for node in (1, 2):
             wanted = {f"node {node}: node {other} {what}" for other, what in how.items()}
             is_told = comes_to(SLOW, lambda: set(group.lines(node)) >= wanted)
@@ -619,9 +619,9 @@ class TestMembers(checks.Checked):
         group = self.group(1).start()
         wanted: list[str] = []
         for count, line in (
-            (192, "node 1: 192 of the 256 places of its home are taken"),
-            (231, "node 1: 231 of the 256 places of its home are taken"),
-            (257, "node 1: an LRA couldn't be begun (E13): its home holds 256"),
+            (192, "node 1: holds 192 LRAs of its own, of 256 that it may"),
+            (231, "node 1: holds 231 LRAs of its own, of 256 that it may"),
+            (257, "node 1: refused to begin an LRA (E13): it holds 256, the most that a node may"),
         ):
             held = len(group.shown(1))
             time.sleep(1.5)

@@ -215,11 +215,11 @@ class TestOperators(checks.Checked):
         self.check("then it is due", group.record(1, lra)["purge"] == "due")
         failed = ("lra_held", "status=FailedToCancel")
         self.check("and is counted as held", comes_to(SLOW, lambda: group.samples(1)[failed] == 1), group.samples(1))
-        told = "node 1: LRAs of its home that failed to close or to cancel: 1"
+        told = "node 1: LRAs of its own that failed to close or to cancel: 1"
         self.check("the log says that one failed",
                    comes_to(SLOW, lambda: told in group.whole_log(1)), group.whole_log(1))
         log = group.whole_log(1)
-        for what in ("forgot", "was told of the end"):
+        for what in ("has forgotten", "was notified of the end"):
             self.check(f"the log says who {what}", f"node 1: an operator says that /lra/{lra}/member/1 {what}" in log,
                        log)
         self.check("no such participant",
@@ -313,9 +313,9 @@ class TestOperators(checks.Checked):
             group.begin(1)
         call = f"/lra/{stuck}/member/1 \\(compensate\\) at {gone.split('/')[2]}"
         for what, line in (
-            ("a full home", r"node 1: 23\d of the 256 places of its home are taken"),
-            ("a call in vain", rf"node 1: {call} was called in vain, \d+ times in \d+ s: no connection"),
-            ("a failure", "node 1: LRAs of its home that failed to close or to cancel: 1"),
+            ("a full home", r"node 1: holds 23\d LRAs of its own, of 256 that it may"),
+            ("a call in vain", rf"node 1: {call} failed \d+ calls in \d+ s: no connection"),
+            ("a failure", "node 1: LRAs of its own that failed to close or to cancel: 1"),
         ):
             told = comes_to(120, lambda line=line: any(re.fullmatch(line, one) for one in group.lines(1)))
             self.check(f"{what} is in the log", told, group.lines(1))

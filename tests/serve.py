@@ -23,8 +23,8 @@ from tools.repo import TOP
 
 JOURNALS = f"{TOP}/tests/data/journal-1"
 # What a node tells whose journal can't be opened.
-NOT_OPENED = "node 1: its journal can't be opened: "
-NO_FOLDER = f"{NOT_OPENED}there is no folder, or no right to it, or no file is left\njournal 1\n"
+NOT_OPENED = "node 1: can't open its journal: "
+NO_FOLDER = f"{NOT_OPENED}the folder is missing, permission is denied, or no file descriptor is left\njournal 1\n"
 CONTINUE = b"HTTP/1.1 100 Continue\r\n\r\n"
 # Fields that are refused, whatever body comes: the code, the version, and the lines.
 REFUSED_FIELDS = (
@@ -396,7 +396,7 @@ class TestServer(checks.Checked):
         ports = free_row(2)
         with socket.create_server((HOST, ports[1])):
             ended = self.end_of_one(2, self.folder, ports)
-        wanted = 1, f"node 2: port {ports[1]} can't be had: it is in use\nport {ports[1]}\n"
+        wanted = 1, f"node 2: can't listen on port {ports[1]}: it is in use\nport {ports[1]}\n"
         self.check("a port in use", ended == wanted, ended)
         ended = self.end_of_one(1, f"{self.folder}/none")
         self.check("a folder that isn't there", ended == (1, NO_FOLDER), ended)

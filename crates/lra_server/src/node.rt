@@ -144,7 +144,7 @@ fn warn_of<R: Clock, L: Log>(
             warn!(log; "node {}: {}", node.number(), refusal);
         }
     } else if reason == StopReason::Starved && backoff.note_warning(now) {
-        warn!(log; "node {}: no thread or no memory can be had for a run", node.number());
+        warn!(log; "node {}: can't start a run: out of threads or memory", node.number());
     }
 }
 

@@ -48,8 +48,8 @@ fn cause_of(kind: ErrorKind) -> &'static str {
     match kind {
         ErrorKind::AddrInUse => "it is in use",
         ErrorKind::AddrNotAvailable => "this machine has no such address",
-        ErrorKind::PermissionDenied => "there is no right to it",
-        _ => "the system refuses it",
+        ErrorKind::PermissionDenied => "permission is denied",
+        _ => "the system refuses",
     }
 }
 
@@ -57,14 +57,14 @@ fn cause_of(kind: ErrorKind) -> &'static str {
 fn tell<R: Eprint>(rt: &R, trouble: Trouble) {
     let _ = match trouble {
         Trouble::Journal(number, why) => eprintln!(rt;
-            "node {number}: its journal can't be opened: {why}\njournal {number}"
+            "node {number}: can't open its journal: {why}\njournal {number}"
         ),
         Trouble::Run(number) => eprintln!(rt;
-            "node {number}: no thread or no memory can be had for a run\nrun {number}"
+            "node {number}: can't start a run: out of threads or memory\nrun {number}"
         ),
         Trouble::Port(number, port, kind) => {
             let why = cause_of(kind);
-            eprintln!(rt; "node {number}: port {port} can't be had: {why}\nport {port}")
+            eprintln!(rt; "node {number}: can't listen on port {port}: {why}\nport {port}")
         }
     };
 }
@@ -83,7 +83,7 @@ fn tell_of_all<L: Log>(log: &L, nodes: &[Node], group: Option<&GroupName>) {
             info!(log; "node {}: listens for operators on {}", node.number(), address);
         }
         if group.is_none() && is_in_reach(node) {
-            warn!(log; "node {}: its group has no name: nodes of another group at the addresses of its own would be taken for them, so give all the same group=NAME", node.number());
+            warn!(log; "node {}: its group has no name, so it can't tell a node of another group from one of its own: start all members with the same group=NAME", node.number());
         }
     }
 }

@@ -111,10 +111,10 @@ fn warn_of<L: Log>(log: &L, node: &Node, plight: &Plight) {
     let (number, member, kind) = (node.number(), plight.member, plight.kind);
     let (host, calls, seconds) = (plight.host.as_str(), plight.calls, plight.time.as_secs());
     if plight.is_over {
-        warn!(log; "node {number}: /lra/{id}/member/{member} ({kind}) at {host} answers, after {calls} calls in vain in {seconds} s");
+        warn!(log; "node {number}: /lra/{id}/member/{member} ({kind}) at {host} answers again, after {calls} failed calls in {seconds} s");
     } else {
         let came = plight.came;
-        warn!(log; "node {number}: /lra/{id}/member/{member} ({kind}) at {host} was called in vain, {calls} times in {seconds} s: {came}");
+        warn!(log; "node {number}: /lra/{id}/member/{member} ({kind}) at {host} failed {calls} calls in {seconds} s: {came}");
     }
 }
 

@@ -125,8 +125,10 @@ fn came_to(node: &Node, other: NodeId, pulled: Pulled) -> Pulled {
 fn fault_of(pulled: Pulled) -> Option<&'static str> {
     match pulled {
         Pulled::Unreached => Some("can't be reached"),
-        Pulled::Unanswered => Some("gives no frame"),
-        Pulled::Misdirected => Some("isn't there: another node answers, or one of another group"),
+        Pulled::Unanswered => Some("doesn't answer with a frame"),
+        Pulled::Misdirected => Some(
+            "isn't at its address: another node answers there, or one of another group",
+        ),
         _ => None,
     }
 }
@@ -137,22 +139,22 @@ fn warn_of_odd<L: Log>(log: &L, number: u8, other: NodeId, pulled: Pulled, outlo
     match pulled {
         Pulled::Older => {
             if outlook.note_odd() {
-                warn!(log; "node {}: node {} told of more facts of its own before: its journal is older", number, other);
+                warn!(log; "node {}: node {} had more facts of its own before: its journal is an older copy", number, other);
             }
         }
         Pulled::Newer => {
             if outlook.note_odd() {
-                warn!(log; "node {}: node {} has more facts of this node: the journal here is older", number, other);
+                warn!(log; "node {}: node {} has more facts of this node: the journal here is an older copy", number, other);
             }
         }
         Pulled::Lost => {
             if outlook.note_odd() {
-                warn!(log; "node {}: node {} has facts of this node, and the journal here is new: start it with the word anew if the old one is lost", number, other);
+                warn!(log; "node {}: node {} has facts of this node, but the journal here is new: if the old one is lost, start with the word anew", number, other);
             }
         }
         Pulled::Refused(refusal) => {
             if outlook.note_odd() {
-                warn!(log; "node {}: what node {} tells can't be taken (E{})", number, other, refusal);
+                warn!(log; "node {}: can't take what node {} sends (E{})", number, other, refusal);
             }
         }
         _ => outlook.note_well(),

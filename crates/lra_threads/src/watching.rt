@@ -80,9 +80,9 @@ impl Warned {
 /// Warns of a home of which this many places are taken.
 fn warn_of<L: Log>(log: &L, number: u8, fill: &Fill) {
     if fill.is_refused {
-        warn!(log; "node {}: an LRA couldn't be begun (E13): its home holds {}", number, MAX_HELD);
+        warn!(log; "node {}: refused to begin an LRA (E13): it holds {}, the most that a node may", number, MAX_HELD);
     } else {
-        warn!(log; "node {}: {} of the {} places of its home are taken", number, fill.taken, MAX_HELD);
+        warn!(log; "node {}: holds {} LRAs of its own, of {} that it may", number, fill.taken, MAX_HELD);
     }
 }
 
@@ -167,11 +167,11 @@ fn warn_of_disk<L: Log>(
     match (hung, hangs) {
         (None, Some(time)) => {
             let seconds = time.as_secs();
-            warn!(log; "node {number}: a call has waited for its journal for {seconds} s: the disk hangs, or is slow");
+            warn!(log; "node {number}: a call has waited {seconds} s for the journal: the disk is slow, or hangs");
         }
         (Some(time), None) => {
             let seconds = time.as_secs();
-            warn!(log; "node {number}: its journal answers again, after {seconds} s");
+            warn!(log; "node {number}: the journal answers again, after {seconds} s");
         }
         _ => {}
     }
@@ -207,16 +207,16 @@ fn warn_of_copies<R: Wait, L: Log>(
         "other nodes"
     };
     if let Some(count) = late.add(node.followers.take_late(rt), now) {
-        warn!(log; "node {number}: {count} answers or lists of calls went on before {copies} {others} had what they show");
+        warn!(log; "node {number}: {count} answers or lists of callbacks were released before {copies} {others} had stored what they show");
     }
     if lag.was_short && !is_short {
         warn!(log; "node {number}: its facts are copied to {copies} {others} again");
     }
     if is_strange && !lag.was_strange {
-        warn!(log; "node {number}: another asks as if it had facts of this node that it never gave");
+        warn!(log; "node {number}: another node claims to have facts of this node that this node never sent");
     }
     if is_doubted && !lag.was_doubted {
-        warn!(log; "node {number}: another has facts of this node that it never gave: it enters nothing more, since two processes may have its number");
+        warn!(log; "node {number}: another node has facts of this node that this node never sent: two processes may run as this node, so it stores nothing more");
     }
     Lag {
         was_short: is_short,
@@ -252,7 +252,7 @@ fn warn_of_claim<R: Wait, L: Log>(rt: &R, log: &L, node: &Node, looks: u64) -> u
     };
     if looks == CLAIM_LOOKS {
         let number = node.number();
-        warn!(log; "node {number}: node {other} says that it has {claim} facts of this node, which are more than the journal here has: nothing is entered until it answers");
+        warn!(log; "node {number}: node {other} claims to have {claim} facts of this node, more than the journal here has: nothing is stored until it answers");
     }
     looks.saturating_add(1)
 }
@@ -284,19 +284,19 @@ pub fn watch<R: Wait + Clock, L: Log>(rt: &R, log: &L, node: &Node) {
         }
         let failed = failed_of(&node.mailbox.held(rt));
         if failures.note(failed, now) {
-            warn!(log; "node {}: LRAs of its home that failed to close or to cancel: {}", node.number(), failed);
+            warn!(log; "node {}: LRAs of its own that failed to close or to cancel: {}", node.number(), failed);
         }
         if node.followers.wants().any() {
             lag = warn_of_copies(rt, log, node, &mut late, lag, now);
         }
         claims = warn_of_claim(rt, log, node, claims);
         if node.take_late() > 0 {
-            warn!(log; "node {}: a call at the operator's port was made after it was answered E18", node.number());
+            warn!(log; "node {}: a call at the operators' port was carried out after it had been answered E18", node.number());
         }
         let count = node.queue.take_closed();
         node.counts.close(rt, count);
         if let Some(count) = closed.add(count, now) {
-            warn!(log; "node {}: {} connections were closed, since no file is left", node.number(), count);
+            warn!(log; "node {}: {} connections were closed, because no file descriptor is left", node.number(), count);
         }
     }
 }

@@ -39,22 +39,21 @@ impl Unopened {
 impl fmt::Display for Unopened {
     fn fmt<W: fmt::Write>(&self, f: &mut fmt::Formatter<W>) -> fmt::Result {
         match self {
-            Unopened::Locked => f.write_str("somebody else has it open"),
+            Unopened::Locked => f.write_str("another process has it open"),
             Unopened::NoFile => {
-                f.write_str("there is no folder, or no right to it, or no file is left")
+                f.write_str(
+                    "the folder is missing, permission is denied, or no file descriptor is left",
+                )
             }
             Unopened::DiskFailed => f.write_str("the disk failed, or is full"),
-            Unopened::NoMemory => f.write_str("no memory can be had"),
+            Unopened::NoMemory => f.write_str("out of memory"),
             Unopened::NoJournal => {
-                f.write_str("it is no database, or one of other tables, or the disk failed")
+                f.write_str("the file is no database, or has other tables, or the disk failed")
             }
-            Unopened::Missing => f.write_str("its file is gone"),
-            Unopened::Older => f.write_str("the file there has fewer facts than the one before"),
+            Unopened::Missing => f.write_str("the file is gone"),
+            Unopened::Older => f.write_str("the file has fewer facts than the one before"),
             Unopened::Broken(place) => {
-                write!(
-                    f,
-                    "the row after {place} of it isn't one of this node's journal"
-                )
+                write!(f, "the row after {place} isn't one of this node's journal")
             }
         }
     }

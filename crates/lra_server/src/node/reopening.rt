@@ -84,7 +84,7 @@ fn warn_of_journal<R: Clock, L: Log>(
 ) {
     let now = now(rt);
     if backoff.note_warning(now) {
-        warn!(log; "node {}: its journal can't be opened again yet: {}", node.number(), why);
+        warn!(log; "node {}: can't open its journal again yet: {}", node.number(), why);
     }
 }
 

@@ -121,8 +121,14 @@ fn warn_by<L: Log>(log: &L, number: u8, command: &Command) {
             act,
             outcome,
         } => warn_of(log, number, *id, *member, reported(*act, *outcome)),
-        Command::Forgot { id, member } => warn_of(log, number, *id, *member, "forgot"),
-        Command::Told { id, member } => warn_of(log, number, *id, *member, "was told of the end"),
+        Command::Forgot { id, member } => warn_of(log, number, *id, *member, "has forgotten"),
+        Command::Told { id, member } => warn_of(
+            log,
+            number,
+            *id,
+            *member,
+            "was notified of the end",
+        ),
         _ => {}
     }
 }
