@@ -1,4 +1,4 @@
--- What the functions that read the arguments meet.
+-- What the functions that read the words ensure.
 use Rattle.std.specs.Prelude.{◌≡◌, ◌≢◌, ⊤, ℕ, List, [], ◌∷◌, ◌++◌, ◌⊎◌, codes, false, option_copied}
 use Rattle.lra_words.specs.Arguments.{Choices, Texts, has}
 use Rattle.lra_words.specs.declared.choices.Chosen.{Chosen}
@@ -8,11 +8,11 @@ use Rattle.lra_words.specs.declared.texts.Given.{Given}
 abbrev pub IsOneOrTwo : List ℕ → (first last : ℕ) → Type 0
 IsOneOrTwo word first last = ((word ≡ first ∷ []) × (last ≡ first)) ⊎ (word ≡ first ∷ 45 ∷ last ∷ [])
 
--- the first of some words doesn't begin so
+-- the first of some words doesn't begin with this name
 abbrev pub IsNotSaid : List ℕ → List (List ℕ) → Type 0
 IsNotSaid name words = (text : List ℕ) (others : List (List ℕ)) → words ≡ (name ++ text) ∷ others → ⊥
 
--- the first of some words is another one
+-- the first of some words isn't this word
 abbrev pub IsNotFirst : List ℕ → List (List ℕ) → Type 0
 IsNotFirst word words = (others : List (List ℕ)) → words ≡ word ∷ others → ⊥
 
@@ -21,7 +21,7 @@ abbrev pub IsUnnamed : List (List ℕ) → Type 0
 IsUnnamed [] = ⊤
 IsUnnamed (word ∷ words) = (has 61 word ≡ false) × (word ≢ codes "strict") × (word ≢ codes "anew")
 
--- the texts that words were found to give
+-- the texts that were found in the words
 abbrev pub texts_in : Given → Texts
 texts_in it = record {
   listen = option_copied it.listen;
@@ -36,6 +36,6 @@ texts_in it = record {
   anew = it.anew;
 }
 
--- what is chosen by words
+-- the options that were found in the words
 abbrev pub chosen : Chosen → Choices
 chosen it = record { listen = it.listen; operate = it.operate; names = it.names.now; ended = it.ended; failed = it.failed; group = option_copied it.group; copies = it.copies; patience = it.patience; strict = it.strict; anew = it.anew }

@@ -13,35 +13,35 @@ use lra_sockets::Peer;
 use std::alloc::Global;
 use std::net::SocketAddr;
 
-/// The nodes that are asked for, from the first to the last: the folder in which their journals lie,
-/// what is chosen for them, and where all nodes are reached.
+/// The members that the words ask for: the first and the last node, the folder with their journals,
+/// their options, and the addresses of all nodes.
 #[derive(Drop)]
 pub struct Asked {
     pub first: u8,
     pub last: u8,
     pub folder: String,
-    /// Where the node listens, and where it listens for operators.
+    /// The address for clients and other nodes, and the address for operators.
     pub listen: Option<SocketAddr>,
     pub operate: Option<SocketAddr>,
-    /// By which names operators may ask, parted by commas. It is empty where none are said.
+    /// The names that operators may ask by, separated by commas. Empty if none are given.
     pub names: String,
-    /// For how many milliseconds roots that ended are kept, and roots that failed to.
+    /// How many milliseconds roots that ended are kept, and roots that failed to end well.
     pub ended: Option<u64>,
     pub failed: Option<u64>,
     /// The name of the group.
     pub group: Option<String>,
-    /// How many other nodes are to have a fact before it is acknowledged, and for how many
-    /// milliseconds that is waited for.
+    /// How many other nodes must have a fact before it is acknowledged, and how many milliseconds
+    /// an answer waits for that.
     pub copies: Option<u64>,
     pub patience: Option<u64>,
-    /// Whether nothing is acknowledged after that.
+    /// Whether an answer is withheld if the copies don't come in that time.
     pub strict: bool,
-    /// Whether the node waits at its start until it has heard all others.
+    /// Whether the node waits at its start until it has heard from all others.
     pub anew: bool,
     pub peers: Vec<Peer>,
 }
 
-/// The bytes that a word names nodes by: one, or two parted by a hyphen.
+/// Returns the bytes by which a word names nodes: one byte, or two separated by a hyphen.
 fn one_or_two(word: &[u8]) -> Option<(u8, u8)>
     ensures one { (first last : ℕ) → IsOneOrTwo word.now first last → result ≡ Some (first, last) }
     ensures is { IfSome result (λ pair. IsOneOrTwo word.now pair.0 pair.1) }
@@ -55,7 +55,7 @@ fn one_or_two(word: &[u8]) -> Option<(u8, u8)>
     None
 }
 
-/// The node that a digit spells.
+/// Returns the node that a digit names.
 fn node_of(digit: u8) -> Option<u8>
     ensures { MatchOption result ((node : ℕ) → 1 ≤ node → node ≤ MAX_NODES → digit ≡ 48 + node → ⊥)
         (λ node. (1 ≤ node) × (node ≤ MAX_NODES) × (digit ≡ 48 + node)) }
@@ -66,7 +66,7 @@ fn node_of(digit: u8) -> Option<u8>
     Some(digit - b'0')
 }
 
-/// The first and the last node that a word says.
+/// Returns the first and the last node that a word names.
 fn nodes_of(word: &[u8]) -> Option<(u8, u8)>
     ensures one { (first last : ℕ) → 1 ≤ first → first ≤ last → last ≤ MAX_NODES → SaysNodes word.now first last →
         result ≡ Some (first, last) }
@@ -88,7 +88,7 @@ fn nodes_of(word: &[u8]) -> Option<(u8, u8)>
     Some((first, last))
 }
 
-/// Whether each of these nodes has a port for operators, if the first one's is said.
+/// Whether each of these nodes has a port for operators, if the first node's is given.
 fn have_ports(first: u8, last: u8, operate: Option<SocketAddr>) -> bool
     ensures { MatchBool result (HavePorts first last operate) (HavePorts first last operate → ⊥) }
 {
@@ -98,8 +98,8 @@ fn have_ports(first: u8, last: u8, operate: Option<SocketAddr>) -> bool
     u32::from(address.port()) + u32::from(last) <= u32::from(u16::MAX) + u32::from(first)
 }
 
-/// Whether one node in its process, of so many, is to have so many copies at others. What goes with
-/// copies isn't said without them.
+/// Whether these options for copies fit together: fewer copies than nodes, and one node alone in
+/// its process. Without `copies` there are no `patience` and no `strict`.
 fn have_copies(
     first: u8,
     last: u8,
@@ -117,7 +117,8 @@ fn have_copies(
     }
 }
 
-/// Whether these are nodes of so many. Several can't listen at one address that is said.
+/// Whether the nodes from `first` to `last` are among `count` nodes. Several nodes can't listen at
+/// one given address.
 fn is_group(first: u8, last: u8, listen: Option<SocketAddr>, count: usize) -> bool
     ensures { MatchBool result ((last ≤ count) × (count ≤ MAX_NODES) × (first < last → listen ≡ None))
         ((last ≤ count) × (count ≤ MAX_NODES) × (first < last → listen ≡ None) → ⊥) }
@@ -128,7 +129,7 @@ fn is_group(first: u8, last: u8, listen: Option<SocketAddr>, count: usize) -> bo
     !(first < last && listen.is_some())
 }
 
-/// The words of a command line.
+/// The words of a command line, taken apart.
 #[derive(Clone, Copy)]
 struct Reading<'a> {
     first: u8,
@@ -137,7 +138,7 @@ struct Reading<'a> {
     folder: &'a str,
 }
 
-/// What words ask for, beside the addresses.
+/// Returns what the words ask for, except the addresses.
 fn reading_of(words: &[String]) -> Option<Reading<'_>>
     ensures one { (first last : ℕ) (choices : Choices) (folder : List ℕ) (addresses : List (List ℕ)) →
         IsUnnamed addresses → AskNodes (map string_bytes words.now) first last choices folder addresses →
@@ -175,7 +176,7 @@ fn reading_of(words: &[String]) -> Option<Reading<'_>>
     })
 }
 
-/// Whether one of some words is this.
+/// Whether a word stands among some words.
 fn stands_in(word: &str, words: &[String]) -> bool
     ensures { MatchBool result (Contains (map string_bytes words.now) word.now)
         (Contains (map string_bytes words.now) word.now → ⊥) }
@@ -201,7 +202,7 @@ fn are_once(words: &[String]) -> bool
     true
 }
 
-/// Where the nodes are reached that the words name, each somewhere else.
+/// Returns the addresses that the words name. All of them differ.
 fn peers_of(alloc: Global, words: &[String]) -> Result<Vec<Peer>, Unasked>
     ensures { MatchResult result (λ peers. SayPeers (map string_bytes words.now) (map reached peers.items))
         (λ fault. fault ≡ unasked.OtherWords → (peers : List (List ℕ × ℕ)) →
@@ -224,7 +225,7 @@ fn peers_of(alloc: Global, words: &[String]) -> Result<Vec<Peer>, Unasked>
     Ok(peers)
 }
 
-/// A text of one's own, if there is one.
+/// Copies a text, if there is one.
 fn own(alloc: Global, text: Option<&str>) -> Result<Option<String>, Unasked>
     ensures { MatchResult result (λ own. option_map string_bytes own ≡ option_copied text.entry)
         (λ fault. fault ≡ unasked.NoMemory) }
@@ -238,7 +239,7 @@ fn own(alloc: Global, text: Option<&str>) -> Result<Option<String>, Unasked>
     }
 }
 
-/// The nodes that the words ask for.
+/// Returns the members that the words ask for.
 pub fn asked_by(alloc: Global, words: &[String]) -> Result<Asked, Unasked>
     ensures asks { MatchResult result (λ asked. AskMembers (map string_bytes words.now) asked.first asked.last
         (choices_of asked) (map reached asked.peers.items) (string_bytes asked.folder))

@@ -1,4 +1,4 @@
-// What the words between the folder and the addresses choose.
+// The options: the words between the folder and the addresses.
 ghost use Rattle.std.specs.Prelude.{◌≡◌, ℕ, List, Option, IfSome, IsSomeAnd, MatchOption, map, option_copied, string_bytes};
 ghost use Rattle.std.specs.List.{list_all};
 ghost use Rattle.std.specs.declared.net.socket_addr.SocketAddr.{SocketAddr as TheAddress};
@@ -9,7 +9,8 @@ use crate::texts::given_by;
 use crate::words::number_of;
 use std::net::SocketAddr;
 
-/// Where to listen by a text, if there is one; nothing where it says it badly.
+/// Reads the address of a text, if there is a text. Returns `None` if it is no socket address with
+/// a port.
 fn address_of(text: Option<&str>) -> Option<Option<SocketAddr>>
     ensures { MatchOption result
         ((address : Option TheAddress) → IsListen (option_copied text.entry) address → ⊥)
@@ -24,7 +25,8 @@ fn address_of(text: Option<&str>) -> Option<Option<SocketAddr>>
     }
 }
 
-/// How many a text says, as milliseconds, if there is one; nothing where it says it badly.
+/// Reads the number of a text, such as milliseconds, if there is a text. Returns `None` if it is no
+/// number.
 fn time_of(text: Option<&str>) -> Option<Option<u64>>
     ensures { MatchOption result ((time : Option ℕ) → IsTime (option_copied text.entry) time → ⊥)
         (λ time. IsTime (option_copied text.entry) time) }
@@ -62,7 +64,7 @@ fn are_name_bytes(bytes: &[u8]) -> bool
     bytes.iter().all(|byte| is_name_byte(*byte))
 }
 
-/// Whether a text is names, parted by commas.
+/// Whether a text is a list of names separated by commas.
 fn are_names(text: &str) -> bool
     ensures { result ≡ are_names text.now }
 {
@@ -84,7 +86,8 @@ fn is_group_name(text: &str) -> bool
     are_name_bytes(bytes)
 }
 
-/// The names that a text says, none where there is no text; nothing where it says them badly.
+/// Returns the list of names in a text, empty if there is no text; `None` if the text is no such
+/// list.
 fn names_of(text: Option<&str>) -> Option<&str>
     ensures { MatchOption result ((names : List ℕ) → IsNames (option_copied text.entry) names → ⊥)
         (λ names. IsNames (option_copied text.entry) names.now) }
@@ -98,7 +101,7 @@ fn names_of(text: Option<&str>) -> Option<&str>
     Some(names)
 }
 
-/// The group that a text names, if there is one; nothing where it names it badly.
+/// Returns the group's name, if there is one; `None` if it is no such name.
 fn group_of(text: Option<&str>) -> Option<Option<&str>>
     ensures { MatchOption result
         ((group : Option (List ℕ)) → IsGroup (option_copied text.entry) group → ⊥)
@@ -113,7 +116,7 @@ fn group_of(text: Option<&str>) -> Option<Option<&str>>
     Some(Some(name))
 }
 
-/// What is chosen, and the addresses.
+/// The options, and the words with the addresses.
 #[derive(Clone, Copy)]
 pub(crate) struct Chosen<'a> {
     pub listen: Option<SocketAddr>,
@@ -129,7 +132,7 @@ pub(crate) struct Chosen<'a> {
     pub addresses: &'a [String],
 }
 
-/// What the words behind the folder choose; nothing where they say it badly.
+/// Reads the options from the words that follow the folder; `None` if one is malformed.
 pub(crate) fn choices_of(words: &[String]) -> Option<Chosen<'_>>
     ensures one { (choices : Choices) (addresses : List (List ℕ)) → IsUnnamed addresses →
         SayChoices (map string_bytes words.now) choices addresses →

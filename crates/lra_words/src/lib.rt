@@ -1,5 +1,5 @@
-//! The words of a command line that run members of a group: which nodes, where their journals lie,
-//! what is chosen for them, and where all nodes are reached.
+//! The words of command lines: which members of a group to run, where their journals lie, their
+//! options, and where all nodes are reached; and which build a program is.
 #![tactic(auto)]
 
 mod asked;

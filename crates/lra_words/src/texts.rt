@@ -1,10 +1,10 @@
-// What stands behind the names of words.
+// Words of the form `name=text`, and single words such as `strict`.
 ghost use Rattle.std.specs.Prelude.{◌≡◌, ◌++◌, ◌∷◌, ℕ, Bool, List, Option, MatchOption, map, option_copied, string_bytes};
 ghost use Rattle.lra_words.specs.Arguments.{Texts, flagged, in_words, said};
 ghost use Rattle.lra_words.specs.Readings.{IsNotFirst, IsNotSaid, IsUnnamed, texts_in};
 
-/// What the first of some words says behind a name, and the words behind it; nothing where it
-/// doesn't begin with the name.
+/// Returns the text after a name in the first of some words, and the remaining words; `None` if the
+/// first word doesn't begin with the name.
 pub fn said_by<'a>(name: &str, words: &'a [String]) -> Option<(&'a str, &'a [String])>
     ensures { MatchOption result (IsNotSaid name.now (map string_bytes words.now))
         (λ parts. map string_bytes words.now ≡ (name.now ++ parts.0.now) ∷ map string_bytes parts.1.now) }
@@ -18,7 +18,7 @@ pub fn said_by<'a>(name: &str, words: &'a [String]) -> Option<(&'a str, &'a [Str
     Some((text, others))
 }
 
-/// What the first of some words says behind a name, if it begins with that, and the words behind.
+/// Does the same, and returns all words if the first one doesn't begin with the name.
 pub fn text_of<'a>(name: &str, words: &'a [String]) -> (Option<&'a str>, &'a [String])
     ensures one { (text : Option (List ℕ)) (others : List (List ℕ)) → IsNotSaid name.now others →
         map string_bytes words.now ≡ said name.now text ++ others →
@@ -32,7 +32,7 @@ pub fn text_of<'a>(name: &str, words: &'a [String]) -> (Option<&'a str>, &'a [St
     (Some(text), others)
 }
 
-/// Whether the first of some words is this one, and the words behind it.
+/// Whether the first of some words is this word; also returns the words that follow it.
 pub(crate) fn flag_of<'a>(word: &str, words: &'a [String]) -> (bool, &'a [String])
     ensures one { (flag : Bool) (others : List (List ℕ)) → IsNotFirst word.now others →
         map string_bytes words.now ≡ flagged word.now flag ++ others →
@@ -48,7 +48,8 @@ pub(crate) fn flag_of<'a>(word: &str, words: &'a [String]) -> (bool, &'a [String
     (true, others)
 }
 
-/// What stands behind the name of each word, whether `strict` and `anew` are there, and the addresses.
+/// The text after the name of each option, whether `strict` and `anew` are there, and the words
+/// with the addresses.
 #[derive(Clone, Copy)]
 pub(crate) struct Given<'a> {
     pub listen: Option<&'a str>,
@@ -64,7 +65,7 @@ pub(crate) struct Given<'a> {
     pub addresses: &'a [String],
 }
 
-/// What the words behind the folder give.
+/// Takes the options apart from the words that follow the folder.
 pub(crate) fn given_by(words: &[String]) -> Given<'_>
     ensures one { (texts : Texts) (addresses : List (List ℕ)) → IsUnnamed addresses →
         map string_bytes words.now ≡ in_words texts addresses →

@@ -1,13 +1,14 @@
-// Which build this is, and when words ask for that.
+// Which build this is, and whether the words ask for that.
 ghost use Rattle.std.specs.Prelude.{◌≡◌, ◌∷◌, [], codes, map, MatchBool, string_bytes};
 
 use crate::texts::flag_of;
 
-/// The version of the release, by semantic versioning: its interface is what HTTP.md, FORMATS.md,
-/// GATEWAY.md and OPERATING.md say. Behind a release it is the next one's, with `-dev`.
+/// The version of the release, by semantic versioning. Its interface is what HTTP.md, FORMATS.md,
+/// GATEWAY.md and OPERATING.md say. After a release it is the next version, with `-dev`.
 pub const VERSION: &str = "0.10.0-dev";
 
-/// The commit whose crates these are but for this file, which `tools/release.py cut` writes.
+/// The commit from which the release was cut. Its crates are these, except for this file, which
+/// `tools/release.py cut` writes.
 pub const COMMIT: &str = "unknown";
 
 /// The kit that proved the release.

@@ -7,7 +7,7 @@ ghost use Rattle.lra_words.specs.declared.words.Unasked.TheVariants as unasked;
 use lra_sockets::Peer;
 use std::alloc::Global;
 
-/// Why the words of a command line ask for no node.
+/// Why the words of a command line ask for nothing that can be run.
 #[derive(Clone, Copy, PartialEq, Eq, Debug)]
 pub enum Unasked {
     OtherWords,
@@ -23,7 +23,7 @@ pub fn number_of(word: &str) -> Option<u64>
     lra_id::number_of(word.as_bytes())
 }
 
-/// The port that a word spells.
+/// Returns the port that a word spells.
 pub fn port_of(word: &str) -> Option<u16>
     ensures { MatchOption result ((port : ℕ) → 1 ≤ port → port < 2 ^ 16 → word.now ≡ decimal port → ⊥)
         (λ port. (1 ≤ port) × (word.now ≡ decimal port)) }
@@ -49,7 +49,7 @@ fn is_host(text: &str) -> bool
     !text.is_empty() && !has(text, b'=') && !has(text, b'[') && !has(text, b']')
 }
 
-/// What stands in brackets, where a text is that.
+/// Returns the text inside the brackets, if the text stands in brackets.
 fn in_brackets(text: &str) -> Option<&str>
     ensures { MatchOption result ((host : List ℕ) → text.now ≡ 91 ∷ (host ++ 93 ∷ []) → ⊥)
         (λ host. text.now ≡ 91 ∷ (host.now ++ 93 ∷ [])) }
@@ -60,7 +60,7 @@ fn in_brackets(text: &str) -> Option<&str>
     rest.strip_suffix(']')
 }
 
-/// The host that an address begins with.
+/// Returns the host of a text, without the brackets around an IPv6 address.
 pub fn host_of(text: &str) -> Option<&str>
     ensures { MatchOption result ((host : List ℕ) → IsHost host → text.now ≡ host_text host → ⊥)
         (λ host. IsHost host.now × (text.now ≡ host_text host.now)) }
@@ -77,7 +77,7 @@ pub fn host_of(text: &str) -> Option<&str>
     Some(host)
 }
 
-/// What stands before the last colon, and behind it.
+/// Returns what stands before and after the last colon.
 fn at_last_colon(word: &str) -> Option<(&str, &str)>
     ensures { MatchOption result (has 58 word.now ≡ false)
         (λ parts. (word.now ≡ parts.0.now ++ 58 ∷ parts.1.now) × (has 58 parts.1.now ≡ false)) }
@@ -85,7 +85,7 @@ fn at_last_colon(word: &str) -> Option<(&str, &str)>
     word.rsplit_once(':')
 }
 
-/// The host and the port that a word says.
+/// Returns the host and the port that a word names.
 fn parts_of(word: &str) -> Option<(&str, u16)>
     ensures { MatchOption result ((peer : List ℕ × ℕ) → SaysPeer word.now peer → ⊥)
         (λ parts. SaysPeer word.now (parts.0.now, parts.1)) }
@@ -102,7 +102,7 @@ fn parts_of(word: &str) -> Option<(&str, u16)>
     Some((host, port))
 }
 
-/// Where the node is reached that a word names.
+/// Returns the address that a word names.
 pub fn peer_of(alloc: Global, word: &str) -> Result<Peer, Unasked>
     ensures { MatchResult result (λ peer. SaysPeer word.now (reached peer))
         (λ fault. fault ≡ unasked.OtherWords → (peer : List ℕ × ℕ) → SaysPeer word.now peer → ⊥) }
