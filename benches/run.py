@@ -31,16 +31,16 @@ sys.path.insert(0, os.path.dirname(os.path.dirname(os.path.abspath(__file__))))
 from tools import prover, repo
 from tools.repo import TOP
 
-REPLICAS = ("lra_id", "lra_facts", "lra_forest", "lra_history", "lra_replica", "lra_delta", "lra_world",
-            "lra_http", "lra_callback")
+REPLICAS = ("state_ids", "state_facts", "state_forest", "theory_history", "state_replica", "wire_frames", "script_world",
+            "wire_http", "wire_callbacks")
 # The libraries of each program.
 USES = {
     **dict.fromkeys(("status", "pages", "prepare", "duties", "merge", "frame", "news"), REPLICAS),
-    "pull": ("lra_id", "lra_facts", "lra_replica", "lra_delta", "lra_http"),
+    "pull": ("state_ids", "state_facts", "state_replica", "wire_frames", "wire_http"),
     "world": REPLICAS,
-    "http": ("lra_http", "httparse"),
-    "api": ("lra_id", "lra_http", "lra_book", "lra_api", "httparse", "sqlite"),
-    "journal": ("lra_id", "lra_facts", "lra_history", "lra_replica", "lra_delta", "lra_journal", "sqlite"),
+    "http": ("wire_http", "httparse"),
+    "api": ("state_ids", "wire_http", "state_book", "wire_api", "httparse", "sqlite"),
+    "journal": ("state_ids", "state_facts", "theory_history", "state_replica", "wire_frames", "state_journal", "sqlite"),
 }
 AT_ONCE = max((os.cpu_count() or 1) - 1, 1)
 

@@ -1,5 +1,5 @@
 #!/usr/bin/env python3
-"""Writes the page for operators into the code: python3 demo/embed.py makes crates/lra_operate/src/page.rt of
+"""Writes the page for operators into the code: python3 demo/embed.py makes crates/wire_operators/src/page.rt of
 demo/watch.html, squeezed. With --check it only says whether that is done. Standard library alone."""
 import os
 import sys
@@ -8,7 +8,7 @@ sys.path.insert(0, os.path.dirname(os.path.dirname(os.path.abspath(__file__))))
 from tools import repo
 from tools.page import PAGE, squeeze
 
-CODE = "crates/lra_operate/src/page.rt"
+CODE = "crates/wire_operators/src/page.rt"
 HEAD = """\
 // The page for operators. demo/embed.py writes this of demo/watch.html.
 

@@ -14,14 +14,14 @@ sys.path.insert(0, os.path.dirname(os.path.dirname(os.path.abspath(__file__))))
 from tools import repo
 
 PAGE = "docs/THEOREMS.md"
-CALL = "crates/lra_world/src/world.rt", "step", "headline"
+CALL = "crates/script_world/src/world.rt", "step", "headline"
 # The types of that call: what it is called on, takes and answers.
 TYPES = "World", "Event", "Reply"
 # The libraries that are read, in reading order.
-CRATES = ["lra_id", "lra_facts", "lra_forest", "lra_history", "lra_index", "lra_replica", "lra_delta",
-          "lra_peer", "lra_callback", "lra_world", "lra_progress", "lra_journal", "lra_book", "lra_trail"]
+CRATES = ["state_ids", "state_facts", "state_forest", "theory_history", "state_stamps", "state_replica", "wire_frames",
+          "wire_pulls", "wire_callbacks", "script_world", "theory_progress", "state_journal", "state_book", "theory_trail"]
 # The laws of progress: each row counts what those before it don't.
-PROGRESS = "crates/lra_progress/src/laws.rt"
+PROGRESS = "crates/theory_progress/src/laws.rt"
 TO_ITS_END = ["an_lra_ends_with_its_saga", "an_end_is_accepted", "open_participants_only_get_fewer",
               "after_so_many_ends_it_has_ended", "what_is_under_way_can_be_ended", "a_tree_goes_on_until_it_is_purged",
               "a_decided_tree_waits_for_so_many_answers", "a_decided_tree_can_be_purged"]
@@ -32,15 +32,15 @@ IN_ROUNDS = ["a_decided_tree_ends_in_so_many_rounds", "a_decided_tree_ends_with_
 ASKED = ["what_is_asked_goes_one_way", "both_acts_are_asked_only_so", "a_call_is_listed_where_it_is_due"]
 DIAGRAM = ["an_lra_goes_by_the_diagram", "a_root_keeps_to_one_branch", "each_edge_happens"]
 # The laws of servers.
-TRAIL = "crates/lra_trail/src/laws"
+TRAIL = "crates/theory_trail/src/laws"
 KILLED = ["servers_with_crashes_are_one_world", "a_turn_that_can_come_is_a_trail", "a_stop_in_a_call_is_a_lost_call"]
 KEPT = ["no_crash_loses_a_compensation", "no_call_is_lost", "only_an_answer_a_cancel_or_a_purge_ends_a_call",
         "a_purge_loses_no_call"]
 LAWS = [("and that nothing is stuck", PROGRESS, ["nothing_is_stuck"]),
         ("and how it goes on to its end", PROGRESS, TO_ITS_END),
-        ("and in how many rounds of calls", "crates/lra_progress/src/laws/bound.rt", IN_ROUNDS),
-        ("and what a participant is asked", "crates/lra_progress/src/laws/asked.rt", ASKED),
-        ("and that an LRA goes by a diagram", "crates/lra_progress/src/laws/diagram.rt", DIAGRAM),
+        ("and in how many rounds of calls", "crates/theory_progress/src/laws/bound.rt", IN_ROUNDS),
+        ("and what a participant is asked", "crates/theory_progress/src/laws/asked.rt", ASKED),
+        ("and that an LRA goes by a diagram", "crates/theory_progress/src/laws/diagram.rt", DIAGRAM),
         ("and that one round makes all alike", PROGRESS, ALIKE),
         ("and so all servers", f"{TRAIL}/rounds.rt", ["one_round_makes_all_servers_alike",
                                                       "a_round_of_servers_can_be_made",
@@ -49,7 +49,7 @@ LAWS = [("and that nothing is stuck", PROGRESS, ["nothing_is_stuck"]),
         ("and that no crash loses a call", f"{TRAIL}/crashes.rt", KEPT),
         ("and that an upgrade may be killed", f"{TRAIL}/upgrades.rt", ["an_upgrade_may_be_killed"])]
 # That a frame is bytes, and where a cut one is refused.
-GRAMMAR = {"lra_delta", "lra_facts LinkTexts"}
+GRAMMAR = {"wire_frames", "state_facts LinkTexts"}
 OF_BYTES = "and that a frame is bytes, and where a cut one is refused"
 NAME = r"[A-Za-z_][A-Za-z0-9_']*"
 WORDS = {"abbrev", "unfoldable", "opaque", "inline", "pub", "record", "data", "noncomputable", "let", "in", "if",

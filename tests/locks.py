@@ -13,7 +13,7 @@ import unittest
 sys.path.insert(0, os.path.dirname(os.path.dirname(os.path.abspath(__file__))))
 from tools import repo
 
-CRATES = ("lra_sockets", "lra_threads", "lra_metrics", "lra_book", "lra_server")
+CRATES = ("node_sockets", "node_threads", "node_metrics", "state_book", "node_server")
 GUARD = re.compile(r"let (?:mut )?\(?(?:mut )?(\w+)[^=;{}]*=[^;{}]*?\.lock\([^;]*;", re.S)
 CALL = re.compile(r"(?:(\w+)\s*\.\s*)?\b(\w+)\(")
 HEAD = re.compile(r"\bimpl\b[^{;]*?(?:\bfor\s+)?(\w+)(?:<[^{;]*>)?\s*(?:where[^{]*)?\{|\bfn (\w+)|^\}", re.M)

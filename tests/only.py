@@ -6,7 +6,7 @@ it go to `rattle check`, as --allow-holes, --fix-imports or --jobs 1.
 A library below the crate is taken as it stands built in crates/NAME/out/rlib here, or in the folders that BUILT names
 (as a clone in which `rt ci` runs), if it and all below it are built; else its sources are read, and of it only what the
 functions call is proved. So a function can be tried minutes after an edit below it, before anything is built: one of
-lra_peer over sources took one to four minutes, where the chain below it takes twenty. SOURCE names libraries whose
+wire_pulls over sources took one to four minutes, where the chain below it takes twenty. SOURCE names libraries whose
 sources are read though they are built. It is no gate: nothing is said of the crate's other functions. The status is
 that of the check."""
 import os

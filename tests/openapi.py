@@ -1,8 +1,8 @@
 #!/usr/bin/env python3
 """Compares docs/openapi.json with the code: python3 tests/openapi.py. Standard library alone.
 
-Each path and method of the one has to stand in the other's table (lra_api/src/path.rt, table.rt), with the words of
-statuses, acts and outcomes as lra_id prints them. The status is 1 where they differ."""
+Each path and method of the one has to stand in the other's table (wire_api/src/path.rt, table.rt), with the words of
+statuses, acts and outcomes as state_ids prints them. The status is 1 where they differ."""
 import json
 import os
 import re
@@ -14,14 +14,14 @@ from tools import checks, repo
 
 def calls_of_code() -> set[tuple[str, str]]:
     """Each path and method of the table."""
-    places = re.findall(r'router\.insert\("([^"]+)", Endpoint::(\w+)\)', repo.read("crates/lra_api/src/path.rt"))
-    verbs = re.findall(r"\(Endpoint::(\w+), TableMethod::(\w+)\) => Some", repo.read("crates/lra_api/src/table.rt"))
+    places = re.findall(r'router\.insert\("([^"]+)", Endpoint::(\w+)\)', repo.read("crates/wire_api/src/path.rt"))
+    verbs = re.findall(r"\(Endpoint::(\w+), TableMethod::(\w+)\) => Some", repo.read("crates/wire_api/src/table.rt"))
     return {(path, verb.lower()) for path, place in places for of, verb in verbs if of == place}
 
 
 def words_of_code(kind: str, file: str) -> set[str]:
     """The names that the code has for a type's values."""
-    return set(re.findall(rf'{kind}::\w+ => "(\w+)"', repo.read(f"crates/lra_id/src/{file}.rt")))
+    return set(re.findall(rf'{kind}::\w+ => "(\w+)"', repo.read(f"crates/state_ids/src/{file}.rt")))
 
 
 class TestInterface(checks.Checked):

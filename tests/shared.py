@@ -50,10 +50,10 @@ class TestRepo(checks.Checked):
     def test_copy(self) -> None:
         """A copy has the code of all crates and one that is added, and no proofs."""
         repo.copy_crates(self.folder)
-        crate = repo.add_crate(self.folder, "added", {"a/b.rt": "text"}, "lra_id")
+        crate = repo.add_crate(self.folder, "added", {"a/b.rt": "text"}, "state_ids")
         self.same("the file that is added", "text", repo.read(f"{crate}/src/a/b.rt"))
-        self.same("what it uses", ["lra_id"], repo.crates(self.folder)["added"])
-        self.check("no proofs", not os.path.exists(f"{self.folder}/crates/lra_id/proofs"))
+        self.same("what it uses", ["state_ids"], repo.crates(self.folder)["added"])
+        self.check("no proofs", not os.path.exists(f"{self.folder}/crates/state_ids/proofs"))
 
     def test_found(self) -> None:
         self.same("what is there", "b", repo.found("a(.)", "xab")[1])
@@ -135,7 +135,7 @@ class TestNode(checks.Checked):
 
     def test_texts(self) -> None:
         self.same("a home", 2, home_of(LRA))
-        log = "[INFO  lra_server::program] node 1: listens on 127.0.0.1:8070\nnode 1: a warning\n"
+        log = "[INFO  node_server::program] node 1: listens on 127.0.0.1:8070\nnode 1: a warning\n"
         self.same("what is told besides", "node 1: a warning\n", without_starts(log))
 
     def test_misled(self) -> None:

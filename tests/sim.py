@@ -7,7 +7,7 @@ sanitizer. `--night [SEEDS EVENTS [FIRST]]` plays 5,000 seeds with 20,000 events
 how many steps that were. `--faults [NAME..]` has it find what tests/sim/faults plants in the code, one after another,
 each in a copy and unproved: files of the form of tests/wrong's, with a line 'crate: NAME' first.
 
-The program is crates/lra_sim, over lra_luck, lra_run and lra_life. The same seed gives the same play everywhere.
+The program is crates/lra_sim, over sim_env, sim_runs and sim_node. The same seed gives the same play everywhere.
 
 Played are one to eight nodes: of each its book over files in memory, of which a call fails, or all do, and what wasn't
 synced is lost or torn; the mailbox with turns, errands, deadlines and sweeps; calls of participants that answer, or

@@ -14,7 +14,7 @@ import sys
 TOP = pathlib.Path(__file__).resolve().parent.parent
 
 # The last commit with the old names.
-BEFORE = "53a2c3fa"
+BEFORE = "02ed7e94"
 
 # Each crate's new name.
 CRATES = {

@@ -1,10 +1,10 @@
-"""Which build the programs say that they are: the constants of crates/lra_words/src/version.rt."""
+"""Which build the programs say that they are: the constants of crates/program_args/src/version.rt."""
 import re
 import typing
 
 from tools import repo
 
-FILE = "crates/lra_words/src/version.rt"
+FILE = "crates/program_args/src/version.rt"
 CONSTANTS = ("VERSION", "COMMIT", "KIT")
 
 

@@ -1,7 +1,7 @@
 -- What an LRA shows, in the terms in which services ask.
 use Rattle.std.specs.Prelude.{◌||◌, Bool, true, false}
-use Rattle.lra_id.specs.declared.status.LraStatus.{LraStatus}
-use Rattle.lra_id.specs.declared.status.LraStatus.TheVariants.{Active, Cancelled, Cancelling, Closed, Closing, FailedToCancel, FailedToClose}
+use Rattle.state_ids.specs.declared.status.LraStatus.{LraStatus}
+use Rattle.state_ids.specs.declared.status.LraStatus.TheVariants.{Active, Cancelled, Cancelling, Closed, Closing, FailedToCancel, FailedToClose}
 
 -- whether an LRA is on its way to its end; whether it failed there; and whether the standard calls
 -- it recovering, which is either of these

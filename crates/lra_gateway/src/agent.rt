@@ -7,9 +7,9 @@ use std::sync::Wait;
 use std::time::{Clock, Duration};
 
 /// A host with clocks, waiting, sockets and lines for people to read.
-pub trait Host: Wait + Clock + Net<Listener = TcpListener, Stream = TcpStream> + Eprint {}
+pub trait Platform: Wait + Clock + Net<Listener = TcpListener, Stream = TcpStream> + Eprint {}
 
-impl<R: Wait + Clock + Net<Listener = TcpListener, Stream = TcpStream> + Eprint> Host for R {}
+impl<R: Wait + Clock + Net<Listener = TcpListener, Stream = TcpStream> + Eprint> Platform for R {}
 
 /// A gateway, with its host and its memory.
 #[derive(Drop)]
@@ -19,7 +19,7 @@ pub struct Agent<'a, R> {
     pub gateway: &'a Gateway,
 }
 
-impl<'a, R: Host> Agent<'a, R> {
+impl<'a, R: Platform> Agent<'a, R> {
     /// Whether this moment has passed or the program is to end.
     pub fn is_over(&self, until: Duration) -> bool {
         moment(self.rt, 0) >= until || self.gateway.signal.has_ended(self.rt)

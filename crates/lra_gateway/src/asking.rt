@@ -1,16 +1,16 @@
 // Calls of nodes, and of the gateways beside other nodes.
 
-use crate::agent::{Agent, Host, moment};
+use crate::agent::{Agent, Platform, moment};
+use crate::args::Door;
 use crate::exchange::{Fail, call, connect, field, length_field, request_of};
-use crate::words::Door;
 use http::Method;
-use lra_http::{CallRequest, Response};
-use lra_narayana::{Came, Repeat, is_again};
-use lra_sockets::Peer;
+use node_sockets::Peer;
 use serde_json::Value;
 use std::alloc::{AllocError, Global};
 use std::time::Duration;
 use std::{str, thread};
+use wire_http::{CallRequest, Response};
+use wire_narayana::{NodeResult, Repeat, is_again};
 
 /// How long reaching a node may take, and how long its answer may take, in milliseconds. A service
 /// waits for ten seconds.
@@ -26,12 +26,12 @@ const PAUSE_MS: u64 = 100;
 
 /// A node's answer.
 #[derive(Drop)]
-pub struct Answer {
+pub struct NodeAnswer {
     pub code: u16,
     body: Option<Value>,
 }
 
-impl Answer {
+impl NodeAnswer {
     /// Returns the text of a member of the body, empty if there is none.
     pub fn text(&self, name: &str) -> &str {
         match &self.body {
@@ -120,15 +120,15 @@ fn value_of(alloc: Global, body: &[u8]) -> Result<Option<Value>, Fail> {
 }
 
 /// Returns the answer in a response.
-fn answer_of(alloc: Global, response: &Response) -> Result<Answer, Fail> {
-    Ok(Answer {
+fn answer_of(alloc: Global, response: &Response) -> Result<NodeAnswer, Fail> {
+    Ok(NodeAnswer {
         code: response.status.as_u16(),
         body: value_of(alloc, response.body.as_slice())?,
     })
 }
 
 /// Calls a port once. The answer may take `ms` milliseconds.
-fn call_once<R: Host>(
+fn call_once<R: Platform>(
     agent: &Agent<R>,
     host: &str,
     port: u16,
@@ -142,42 +142,42 @@ fn call_once<R: Host>(
 }
 
 /// Asks one question at a port.
-fn ask_once<R: Host>(
+fn ask_once<R: Platform>(
     agent: &Agent<R>,
     host: &str,
     port: u16,
     request: &CallRequest,
-) -> Result<Answer, Fail> {
+) -> Result<NodeAnswer, Fail> {
     let response = call_once(agent, host, port, request, ANSWER_MS)?;
     answer_of(agent.alloc, &response)
 }
 
 /// Returns the outcome of a call without an answer.
-fn came_to(fail: Fail) -> Came {
+fn came_to(fail: Fail) -> NodeResult {
     match fail {
-        Fail::Unsent => Came::Unsent,
-        Fail::Unheard => Came::Unheard,
-        Fail::NoMemory => Came::NoMemory,
+        Fail::Unsent => NodeResult::Unsent,
+        Fail::Unheard => NodeResult::Unheard,
+        Fail::NoMemory => NodeResult::NoMemory,
     }
 }
 
 /// Returns the outcome of a question.
-fn came_of(answer: &Result<Answer, Fail>) -> Came {
+fn came_of(answer: &Result<NodeAnswer, Fail>) -> NodeResult {
     match answer {
-        Ok(answer) if answer.did_nothing() => Came::DidNothing,
-        Ok(answer) if answer.code == 503 => Came::Unsure,
-        Ok(_) => Came::Answered,
+        Ok(answer) if answer.did_nothing() => NodeResult::DidNothing,
+        Ok(answer) if answer.code == 503 => NodeResult::Unsure,
+        Ok(_) => NodeResult::Answered,
         Err(fail) => came_to(*fail),
     }
 }
 
 /// Asks at a port, and for some time repeats the question as far as that does no harm.
-pub fn ask<R: Host>(
+pub fn ask<R: Platform>(
     agent: &Agent<R>,
     host: &str,
     port: u16,
     question: &Question,
-) -> Result<Answer, Fail> {
+) -> Result<NodeAnswer, Fail> {
     let request = request_by(agent.alloc, host, port, question)?;
     let until = moment(agent.rt, agent.gateway.again);
     for _ in agent.rt.forever() {
@@ -191,27 +191,27 @@ pub fn ask<R: Host>(
 }
 
 /// Asks at a port once.
-pub fn ask_now<R: Host>(
+pub fn ask_now<R: Platform>(
     agent: &Agent<R>,
     peer: &Peer,
     question: &Question,
-) -> Result<Answer, Fail> {
+) -> Result<NodeAnswer, Fail> {
     let request = request_by(agent.alloc, peer.host.as_str(), peer.port, question)?;
     ask_once(agent, peer.host.as_str(), peer.port, &request)
 }
 
 /// Asks a node.
-pub fn ask_node<R: Host>(
+pub fn ask_node<R: Platform>(
     agent: &Agent<R>,
     door: &Door,
     question: &Question,
-) -> Result<Answer, Fail> {
+) -> Result<NodeAnswer, Fail> {
     ask(agent, door.peer.host.as_str(), door.peer.port, question)
 }
 
 /// Hands a request to the gateway beside a node, and for some time repeats that as far as it does
 /// no harm.
-pub fn hand_over<R: Host>(
+pub fn hand_over<R: Platform>(
     agent: &Agent<R>,
     peer: &Peer,
     request: &CallRequest,

@@ -1,16 +1,16 @@
 // What an LRA shows, and how it is ended.
 
-use crate::agent::{Agent, Host, moment};
-use crate::asking::{Answer, Question, ask_node, ask_now, look_at};
+use crate::agent::{Agent, Platform, moment};
+use crate::asking::{NodeAnswer, Question, ask_node, ask_now, look_at};
 use crate::exchange::Fail;
-use crate::names::Lra;
-use crate::reply::{Reply, plain, refusal};
+use crate::names::NamedLra;
+use crate::reply::{ServiceAnswer, plain, refusal};
 use crate::showing::{goes_so, is_to_end};
 use http::Method;
-use lra_id::LraStatus;
-use lra_narayana::{Repeat, text_of};
+use state_ids::LraStatus;
 use std::thread;
 use std::time::Duration;
+use wire_narayana::{Repeat, text_of};
 
 /// The first pause between two looks at an LRA that is to end, in milliseconds. Each further pause
 /// is twice as long.
@@ -23,7 +23,7 @@ const LAST_LOOK_MS: u64 = 50;
 const PAUSE_MS: u64 = 100;
 
 /// Whether a node said something about an LRA.
-fn is_told(came: &Result<Answer, Fail>) -> bool {
+fn is_told(came: &Result<NodeAnswer, Fail>) -> bool {
     match came {
         Ok(answer) => answer.code != 503,
         Err(_) => false,
@@ -32,7 +32,7 @@ fn is_told(came: &Result<Answer, Fail>) -> bool {
 
 /// Returns what an LRA shows, by its home or, if the home doesn't say, by another node that this
 /// gateway asks itself.
-pub fn status_of<R: Host>(agent: &Agent<R>, lra: &Lra) -> Result<Answer, Fail> {
+pub fn status_of<R: Platform>(agent: &Agent<R>, lra: &NamedLra) -> Result<NodeAnswer, Fail> {
     let alloc = agent.alloc;
     let id = text_of(alloc, lra.id)?;
     let path = format!(in alloc; "/lra/{id}")?;
@@ -53,7 +53,7 @@ pub fn status_of<R: Host>(agent: &Agent<R>, lra: &Lra) -> Result<Answer, Fail> {
 }
 
 /// Returns what an LRA shows. As long as no node says anything, asks again for some time.
-pub fn status_in_time<R: Host>(agent: &Agent<R>, lra: &Lra) -> Result<Answer, Fail> {
+pub fn status_in_time<R: Platform>(agent: &Agent<R>, lra: &NamedLra) -> Result<NodeAnswer, Fail> {
     let until = moment(agent.rt, agent.gateway.again);
     for _ in agent.rt.forever() {
         let came = status_of(agent, lra);
@@ -66,7 +66,7 @@ pub fn status_in_time<R: Host>(agent: &Agent<R>, lra: &Lra) -> Result<Answer, Fa
 }
 
 /// Returns the status of an LRA: `GET /lra-coordinator/UID/status`.
-pub fn status<R: Host>(agent: &Agent<R>, lra: &Lra) -> Result<Reply, Fail> {
+pub fn status<R: Platform>(agent: &Agent<R>, lra: &NamedLra) -> Result<ServiceAnswer, Fail> {
     let answer = status_in_time(agent, lra)?;
     if answer.code != 200 {
         return Ok(refusal(agent.alloc, &answer)?);
@@ -75,7 +75,7 @@ pub fn status<R: Host>(agent: &Agent<R>, lra: &Lra) -> Result<Reply, Fail> {
 }
 
 /// Returns what an LRA shows after a close or cancel, by the answer or by the refusal of a repeat.
-fn shown_by(answer: &Answer) -> Option<LraStatus> {
+fn shown_by(answer: &NodeAnswer) -> Option<LraStatus> {
     let text = match answer.refused().strip_prefix("E6 NotActive ") {
         Some(status) => status,
         None => answer.text("status"),
@@ -84,7 +84,7 @@ fn shown_by(answer: &Answer) -> Option<LraStatus> {
 }
 
 /// Waits for some time for the end of an LRA.
-fn wait_for_end<R: Host>(agent: &Agent<R>, lra: &Lra, first: LraStatus) -> LraStatus {
+fn wait_for_end<R: Platform>(agent: &Agent<R>, lra: &NamedLra, first: LraStatus) -> LraStatus {
     let until = moment(agent.rt, agent.gateway.wait);
     let mut shown = first;
     let mut pause = FIRST_LOOK_MS;
@@ -103,7 +103,11 @@ fn wait_for_end<R: Host>(agent: &Agent<R>, lra: &Lra, first: LraStatus) -> LraSt
 
 /// Closes or cancels an LRA: `PUT /lra-coordinator/UID/close`, or `/cancel`. A repeat is answered
 /// as the first call is; if the LRA was ended the other way, the answer is 412.
-pub fn end<R: Host>(agent: &Agent<R>, lra: &Lra, closes: bool) -> Result<Reply, Fail> {
+pub fn end<R: Platform>(
+    agent: &Agent<R>,
+    lra: &NamedLra,
+    closes: bool,
+) -> Result<ServiceAnswer, Fail> {
     let alloc = agent.alloc;
     let id = text_of(alloc, lra.id)?;
     let word = if closes { "close" } else { "cancel" };

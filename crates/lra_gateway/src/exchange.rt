@@ -1,13 +1,8 @@
 // One call over a connection of its own, to a node, another gateway or a participant.
 
-use crate::agent::{Agent, Host};
+use crate::agent::{Agent, Platform};
 use http::Method;
-use lra_http::{
-    Bytes, CallRequest, Field, Fields, MAX_BODY_BYTES, Response, Sink, Source, Text, read_response,
-    write_request,
-};
-use lra_narayana::{Broken, read_answer};
-use lra_sockets::{
+use node_sockets::{
     BufferedSocket, Cutoff, Limit, SLICE_MS, SocketReader, SocketWriter, Times, connect_to_one,
 };
 use std::alloc::{AllocError, AllocFailed, Global};
@@ -15,6 +10,11 @@ use std::net::{TcpStream, ToSocketAddrs};
 use std::time::Duration;
 use std::{io, str};
 use url::{Host as UrlHost, Url};
+use wire_http::{
+    Bytes, CallRequest, Field, Fields, MAX_BODY_BYTES, Response, Sink, Source, Text, read_response,
+    write_request,
+};
+use wire_narayana::{Broken, read_answer};
 
 /// Why there is no answer.
 #[derive(Clone, Copy, PartialEq, Eq, Debug)]
@@ -79,14 +79,19 @@ pub fn request_of(
 }
 
 /// Connects to a host by its name or its address.
-pub fn connect<R: Host>(agent: &Agent<R>, host: &str, port: u16, ms: u64) -> io::Result<TcpStream> {
+pub fn connect<R: Platform>(
+    agent: &Agent<R>,
+    host: &str,
+    port: u16,
+    ms: u64,
+) -> io::Result<TcpStream> {
     let (rt, alloc, signal) = (agent.rt, agent.alloc, &agent.gateway.signal);
     let addresses = (host, port).to_socket_addrs(rt)?;
     connect_to_one(rt, alloc, signal, addresses, Duration::from_millis(ms))
 }
 
 /// Connects to the host of a URL.
-pub fn connect_to<R: Host>(agent: &Agent<R>, url: &Url, ms: u64) -> io::Result<TcpStream> {
+pub fn connect_to<R: Platform>(agent: &Agent<R>, url: &Url, ms: u64) -> io::Result<TcpStream> {
     let (rt, alloc, signal) = (agent.rt, agent.alloc, &agent.gateway.signal);
     let port = url.port_or_known_default().unwrap_or(80);
     let time = Duration::from_millis(ms);
@@ -103,7 +108,7 @@ pub fn connect_to<R: Host>(agent: &Agent<R>, url: &Url, ms: u64) -> io::Result<T
 }
 
 /// Makes a reader and a writer over a connection, for one call that takes at most this long.
-fn buffered<'a, R: Host>(
+fn buffered<'a, R: Platform>(
     agent: &Agent<'a, R>,
     stream: TcpStream,
     ms: u64,
@@ -141,12 +146,15 @@ fn hear<S: Source>(alloc: Global, reader: &mut S) -> Option<Response> {
 }
 
 /// Reads a participant's answer, of any framing.
-fn hear_any<S: Source>(alloc: Global, reader: &mut S) -> Result<lra_narayana::Response, Broken> {
+fn hear_any<S: Source>(
+    alloc: Global,
+    reader: &mut S,
+) -> Result<wire_narayana::ParticipantResponse, Broken> {
     read_answer(alloc, reader)
 }
 
 /// Calls a node or a gateway once over a connection. The answer may take `ms` milliseconds.
-pub fn call<R: Host>(
+pub fn call<R: Platform>(
     agent: &Agent<R>,
     stream: TcpStream,
     request: &CallRequest,
@@ -165,12 +173,12 @@ pub fn call<R: Host>(
 }
 
 /// Calls a participant once over a connection. The answer may take `ms` milliseconds.
-pub fn call_participant<R: Host>(
+pub fn call_participant<R: Platform>(
     agent: &Agent<R>,
     stream: TcpStream,
     request: &CallRequest,
     ms: u64,
-) -> Result<lra_narayana::Response, Broken> {
+) -> Result<wire_narayana::ParticipantResponse, Broken> {
     let Some((mut reader, mut writer)) = buffered(agent, stream, ms) else {
         return Err(Broken::Bad);
     };

@@ -1,16 +1,19 @@
 // Serving nodes: a participant is called once, and its answer is translated.
 
-use crate::agent::{Agent, Host};
+use crate::agent::{Agent, Platform};
 use crate::exchange::{call_participant, connect_to, field, length_field, request_of};
 use crate::gateway::Group;
 use crate::names::{member_in, recovery_of, url_of};
 use crate::reply::{LRA, RECOVERY};
 use http::Method;
-use lra_http::{CallRequest, Field};
-use lra_id::LraId;
-use lra_narayana::{Answer, Broken, Kind, Opened, Request, Told, id_in, open, told_of, word_in};
+use state_ids::LraId;
 use std::alloc::AllocError;
 use url::{Position, Url};
+use wire_http::{CallRequest, Field};
+use wire_narayana::{
+    AnswerToNode, Broken, LinkKind, Opened, ParticipantAnswer, ServiceRequest, id_in, open,
+    told_of, word_in,
+};
 
 /// How long reaching a participant may take, and how long its answer may take, in milliseconds. A
 /// node waits for ten seconds.
@@ -24,11 +27,11 @@ const ENDED: &str = "Long-Running-Action-Ended";
 /// The field that names the parent LRA.
 const PARENT: &str = "Long-Running-Action-Parent";
 
-fn method_of(kind: Kind) -> Method {
+fn method_of(kind: LinkKind) -> Method {
     match kind {
-        Kind::Compensate | Kind::Complete | Kind::After => Method::PUT,
-        Kind::Status => Method::GET,
-        Kind::Forget => Method::DELETE,
+        LinkKind::Compensate | LinkKind::Complete | LinkKind::After => Method::PUT,
+        LinkKind::Status => Method::GET,
+        LinkKind::Forget => Method::DELETE,
     }
 }
 
@@ -37,15 +40,15 @@ fn method_of(kind: Kind) -> Method {
 struct Calling<'a> {
     group: &'a Group,
     id: LraId,
-    kind: Kind,
+    kind: LinkKind,
     url: Url,
-    request: &'a Request,
+    request: &'a ServiceRequest,
 }
 
 impl<'a> Calling<'a> {
     /// Returns the body that is passed on: the status of an LRA that has ended.
     fn body(&self) -> &[u8] {
-        if self.kind == Kind::After {
+        if self.kind == LinkKind::After {
             &self.request.body
         } else {
             &[]
@@ -54,11 +57,11 @@ impl<'a> Calling<'a> {
 }
 
 /// Returns the fields that name the LRA, its parent and the participant.
-fn names_of<R: Host>(agent: &Agent<R>, calling: &Calling) -> Result<Vec<Field>, AllocError> {
+fn names_of<R: Platform>(agent: &Agent<R>, calling: &Calling) -> Result<Vec<Field>, AllocError> {
     let (alloc, group, id) = (agent.alloc, calling.group, calling.id);
     let given = &calling.request.fields;
     let mut fields = Vec::new(alloc);
-    let name = if calling.kind == Kind::After {
+    let name = if calling.kind == LinkKind::After {
         ENDED
     } else {
         LRA
@@ -78,7 +81,10 @@ fn names_of<R: Host>(agent: &Agent<R>, calling: &Calling) -> Result<Vec<Field>, 
 
 /// Makes the request to the participant. It has no `Connection: close`, because some services that
 /// are asked with it state no length for an empty answer.
-fn request_for<R: Host>(agent: &Agent<R>, calling: &Calling) -> Result<CallRequest, AllocError> {
+fn request_for<R: Platform>(
+    agent: &Agent<R>,
+    calling: &Calling,
+) -> Result<CallRequest, AllocError> {
     let (alloc, url, body) = (agent.alloc, &calling.url, calling.body());
     let method = method_of(calling.kind);
     let mut fields = names_of(agent, calling)?;
@@ -93,24 +99,32 @@ fn request_for<R: Host>(agent: &Agent<R>, calling: &Calling) -> Result<CallReque
 }
 
 /// Calls the participant once.
-fn call_once<R: Host>(agent: &Agent<R>, calling: &Calling) -> Result<Answer, AllocError> {
+fn call_once<R: Platform>(
+    agent: &Agent<R>,
+    calling: &Calling,
+) -> Result<ParticipantAnswer, AllocError> {
     let request = request_for(agent, calling)?;
     let Ok(stream) = connect_to(agent, &calling.url, REACH_MS) else {
-        return Ok(Answer::Unreached);
+        return Ok(ParticipantAnswer::Unreached);
     };
     match call_participant(agent, stream, &request, CALL_MS) {
-        Ok(answer) => Ok(Answer::Whole(answer.code, word_in(&answer.body))),
+        Ok(answer) => Ok(ParticipantAnswer::Whole(answer.code, word_in(&answer.body))),
         Err(Broken::NoMemory) => Err(AllocError),
-        Err(Broken::Bad) => Ok(Answer::Broken),
+        Err(Broken::Bad) => Ok(ParticipantAnswer::Broken),
     }
 }
 
 /// Logs an answer that the node receives in another form, or not at all.
-fn tell<R: Host>(agent: &Agent<R>, calling: &Calling, answer: Answer, told: Told) {
+fn tell<R: Platform>(
+    agent: &Agent<R>,
+    calling: &Calling,
+    answer: ParticipantAnswer,
+    told: AnswerToNode,
+) {
     let (name, link, code) = (calling.kind.name(), calling.url.as_str(), told.code);
     match answer {
-        Answer::Whole(own, _) if own == code => {}
-        Answer::Whole(own, word) => {
+        ParticipantAnswer::Whole(own, _) if own == code => {}
+        ParticipantAnswer::Whole(own, word) => {
             let word = match word {
                 Some(status) => status.name(),
                 None => "",
@@ -119,24 +133,27 @@ fn tell<R: Host>(agent: &Agent<R>, calling: &Calling, answer: Answer, told: Told
                 "lra_gateway: {link} ({name}) answered {own} {word}, which is told as {code}"
             );
         }
-        Answer::Unreached => {
+        ParticipantAnswer::Unreached => {
             let _ = eprintln!(agent.rt; "lra_gateway: {link} ({name}) can't be reached");
         }
-        Answer::Broken | Answer::Late => {
+        ParticipantAnswer::Broken | ParticipantAnswer::Late => {
             let _ = eprintln!(agent.rt; "lra_gateway: {link} ({name}) gave no whole answer");
         }
     }
 }
 
-fn forbidden() -> Told {
-    Told {
+fn forbidden() -> AnswerToNode {
+    AnswerToNode {
         code: 403,
         word: None,
     }
 }
 
 /// Returns the id of the LRA for which a node calls.
-fn id_of<R: Host>(agent: &Agent<R>, request: &Request) -> Result<Option<LraId>, AllocError> {
+fn id_of<R: Platform>(
+    agent: &Agent<R>,
+    request: &ServiceRequest,
+) -> Result<Option<LraId>, AllocError> {
     let fields = &request.fields;
     let name = if fields.lra.is_empty() {
         &fields.ended
@@ -148,10 +165,10 @@ fn id_of<R: Host>(agent: &Agent<R>, request: &Request) -> Result<Option<LraId>, 
 
 /// Returns what a node calls for, if its link is one of this gateway, for this LRA and with this
 /// method.
-fn calling_of<'a, R: Host>(
+fn calling_of<'a, R: Platform>(
     agent: &Agent<R>,
     group: &'a Group,
-    request: &'a Request,
+    request: &'a ServiceRequest,
 ) -> Result<Option<Calling<'a>>, AllocError> {
     let alloc = agent.alloc;
     let Some(id) = id_of(agent, request)? else {
@@ -178,11 +195,11 @@ fn calling_of<'a, R: Host>(
 }
 
 /// Answers a node of a group.
-pub fn serve_node<R: Host>(
+pub fn serve_node<R: Platform>(
     agent: &Agent<R>,
     group: &Group,
-    request: &Request,
-) -> Result<Told, AllocError> {
+    request: &ServiceRequest,
+) -> Result<AnswerToNode, AllocError> {
     let Some(calling) = calling_of(agent, group, request)? else {
         let target = request.target.as_str();
         let _ = eprintln!(agent.rt;

@@ -1,13 +1,13 @@
 // What all threads of a gateway share. None of it changes an answer, except whose turn it is.
 
+use crate::args::{Door, GatewayArgs};
 use crate::port::Port;
-use crate::words::{Asked, Door};
-use lra_narayana::{Key, Short, Via};
-use lra_sockets::{Peer, Signal};
+use node_sockets::{Peer, Signal};
 use sha2::{Digest, Sha256};
 use std::alloc::{AllocError, Global};
 use std::net::SocketAddr;
 use std::sync::atomic::{AtomicU64, Ordering};
+use wire_narayana::{Key, Short, Via};
 
 /// Nodes that give out the same ids, and how they and the gateway reach each other.
 #[derive(Drop)]
@@ -153,8 +153,8 @@ fn groups_of(
 }
 
 /// Makes the gateway that the words ask for, with this key.
-pub fn gateway_of(alloc: Global, asked: Asked, key: &Key) -> Result<Gateway, AllocError> {
-    let Asked {
+pub fn gateway_of(alloc: Global, asked: GatewayArgs, key: &Key) -> Result<Gateway, AllocError> {
+    let GatewayArgs {
         listen,
         base,
         calls,

@@ -1,15 +1,15 @@
 // Requests of services, and requests that are handed to the gateway beside another node.
 
-use crate::agent::{Agent, Host};
+use crate::agent::{Agent, Platform};
+use crate::args::Door;
 use crate::asking::hand_over;
 use crate::exchange::{Fail, field, length_field, request_of};
 use crate::gateway::Group;
-use crate::reply::{Reply, plain, reply_of};
-use crate::words::Door;
+use crate::reply::{ServiceAnswer, plain, reply_of};
 use http::Method;
-use lra_http::CallRequest;
-use lra_narayana::{Repeat, Request};
 use std::alloc::{AllocError, Global};
+use wire_http::CallRequest;
+use wire_narayana::{Repeat, ServiceRequest};
 
 /// The beginning of a target that was handed over. The group's number follows, and then the
 /// service's own target.
@@ -17,8 +17,8 @@ const HANDED: &str = "/handed-over/";
 
 /// A service's request.
 #[derive(Clone, Copy)]
-pub struct Errand<'a> {
-    pub request: &'a Request,
+pub struct Handover<'a> {
+    pub request: &'a ServiceRequest,
     /// The target, as the service wrote it.
     pub target: &'a str,
     /// The group for which another gateway handed the request over, if one did. Such a request
@@ -26,7 +26,7 @@ pub struct Errand<'a> {
     pub handed_for: Option<u8>,
 }
 
-impl<'a> Errand<'a> {
+impl<'a> Handover<'a> {
     pub fn method(&self) -> &str {
         self.request.method.as_str()
     }
@@ -67,15 +67,15 @@ fn handed(target: &str) -> Option<(u8, &str)> {
 }
 
 /// Returns what a request asks for.
-pub fn errand_of(request: &Request) -> Errand {
+pub fn errand_of(request: &ServiceRequest) -> Handover {
     let target = request.target.as_str();
     match handed(target) {
-        Some((number, target)) => Errand {
+        Some((number, target)) => Handover {
             request,
             target,
             handed_for: Some(number),
         },
-        None => Errand {
+        None => Handover {
             request,
             target,
             handed_for: None,
@@ -98,7 +98,7 @@ fn method_of(name: &str) -> Option<Method> {
 fn request_for(
     alloc: Global,
     group: &Group,
-    errand: &Errand,
+    errand: &Handover,
     method: Method,
 ) -> Result<CallRequest, AllocError> {
     let (number, target) = (group.number, errand.target);
@@ -114,13 +114,13 @@ fn request_for(
 }
 
 /// Hands a service's request to the gateway beside a node of a group.
-pub fn hand<R: Host>(
+pub fn hand<R: Platform>(
     agent: &Agent<R>,
     group: &Group,
     door: &Door,
-    errand: &Errand,
+    errand: &Handover,
     repeat: Repeat,
-) -> Result<Reply, Fail> {
+) -> Result<ServiceAnswer, Fail> {
     let alloc = agent.alloc;
     if errand.handed_for.is_some() {
         return Ok(plain(alloc, 503, "this gateway isn't beside its home")?);

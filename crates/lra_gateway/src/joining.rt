@@ -1,18 +1,18 @@
 // Joining an LRA, and leaving it.
 
-use crate::agent::{Agent, Host, moment};
-use crate::asking::{Answer, Question, ask_node};
+use crate::agent::{Agent, Platform, moment};
+use crate::asking::{NodeAnswer, Question, ask_node};
 use crate::exchange::Fail;
-use crate::handing::Errand;
+use crate::handing::Handover;
 use crate::members::{found_in, looked_up};
-use crate::names::{Lra, member_in, recovery_of};
+use crate::names::{NamedLra, member_in, recovery_of};
 use crate::query::{said, time_in};
-use crate::reply::{RECOVERY, Reply, made, plain, refusal};
+use crate::reply::{RECOVERY, ServiceAnswer, made, plain, refusal};
 use http::Method;
-use lra_narayana::{Given, Repeat, Uncarried, carry, links_of, text_of};
 use std::alloc::{AllocError, Global};
 use std::str;
 use url::{Position, Url};
+use wire_narayana::{GivenLink, Repeat, Uncarried, carry, links_of, text_of};
 
 /// Why links aren't accepted.
 #[derive(Drop)]
@@ -69,7 +69,11 @@ fn told_of(alloc: Global, link: &str, why: Uncarried) -> Untaken {
 }
 
 /// Makes the carried link for a link.
-fn carried<R: Host>(agent: &Agent<R>, lra: &Lra, link: &Given) -> Result<Given, Untaken> {
+fn carried<R: Platform>(
+    agent: &Agent<R>,
+    lra: &NamedLra,
+    link: &GivenLink,
+) -> Result<GivenLink, Untaken> {
     let (alloc, gateway, group) = (agent.alloc, agent.gateway, lra.group);
     let (kind, url) = (link.kind, link.url.as_str());
     if !is_allowed(alloc, &gateway.allow, url) {
@@ -85,13 +89,17 @@ fn carried<R: Host>(agent: &Agent<R>, lra: &Lra, link: &Given) -> Result<Given, 
         lra.id,
         url,
     ) {
-        Ok(url) => Ok(Given { kind, url }),
+        Ok(url) => Ok(GivenLink { kind, url }),
         Err(why) => Err(told_of(alloc, url, why)),
     }
 }
 
 /// Makes the carried links for the links of a text.
-fn carry_all<R: Host>(agent: &Agent<R>, lra: &Lra, text: &str) -> Result<Vec<Given>, Untaken> {
+fn carry_all<R: Platform>(
+    agent: &Agent<R>,
+    lra: &NamedLra,
+    text: &str,
+) -> Result<Vec<GivenLink>, Untaken> {
     let alloc = agent.alloc;
     let Some(links) = links_of(alloc, text)? else {
         return Err(Untaken::Told(String::from_str(alloc, "no links")?));
@@ -106,7 +114,11 @@ fn carry_all<R: Host>(agent: &Agent<R>, lra: &Lra, text: &str) -> Result<Vec<Giv
     Ok(all)
 }
 
-fn joined<R: Host>(agent: &Agent<R>, lra: &Lra, member: u8) -> Result<Reply, Fail> {
+fn joined<R: Platform>(
+    agent: &Agent<R>,
+    lra: &NamedLra,
+    member: u8,
+) -> Result<ServiceAnswer, Fail> {
     let url = recovery_of(agent, lra.group, lra.id, member)?;
     Ok(made(agent.alloc, 200, RECOVERY, url)?)
 }
@@ -114,11 +126,11 @@ fn joined<R: Host>(agent: &Agent<R>, lra: &Lra, member: u8) -> Result<Reply, Fai
 /// Returns what a service is told if it joined with these links before: the same as then, but if
 /// the LRA isn't Active any more, that it is too late, as any other service is told. Otherwise its
 /// work might come after its compensation.
-fn joined_before<R: Host>(
+fn joined_before<R: Platform>(
     agent: &Agent<R>,
-    lra: &Lra,
-    links: &[Given],
-) -> Result<Option<Reply>, Fail> {
+    lra: &NamedLra,
+    links: &[GivenLink],
+) -> Result<Option<ServiceAnswer>, Fail> {
     let Some(answer) = looked_up(agent, lra)? else {
         return Ok(None);
     };
@@ -132,7 +144,7 @@ fn joined_before<R: Host>(
 }
 
 /// Makes the body of a join. A carried link has neither quotes nor backslashes.
-fn join_body(alloc: Global, links: &[Given]) -> Result<String, AllocError> {
+fn join_body(alloc: Global, links: &[GivenLink]) -> Result<String, AllocError> {
     let mut body = String::from_str(alloc, "{")?;
     for link in links {
         let comma = if body.len() == 1 { "" } else { "," };
@@ -145,7 +157,11 @@ fn join_body(alloc: Global, links: &[Given]) -> Result<String, AllocError> {
 }
 
 /// Returns what a service is told about a join.
-fn told_join<R: Host>(agent: &Agent<R>, lra: &Lra, answer: &Answer) -> Result<Reply, Fail> {
+fn told_join<R: Platform>(
+    agent: &Agent<R>,
+    lra: &NamedLra,
+    answer: &NodeAnswer,
+) -> Result<ServiceAnswer, Fail> {
     if answer.code != 200 {
         return Ok(refusal(agent.alloc, answer)?);
     }
@@ -157,7 +173,11 @@ fn told_join<R: Host>(agent: &Agent<R>, lra: &Lra, answer: &Answer) -> Result<Re
 
 /// Joins with carried links. Checks first whether a service joined with them before. So a join
 /// whose answer was lost isn't repeated if it was made.
-fn join_with<R: Host>(agent: &Agent<R>, lra: &Lra, links: &[Given]) -> Result<Reply, Fail> {
+fn join_with<R: Platform>(
+    agent: &Agent<R>,
+    lra: &NamedLra,
+    links: &[GivenLink],
+) -> Result<ServiceAnswer, Fail> {
     let alloc = agent.alloc;
     let (body, id) = (join_body(alloc, links)?, text_of(alloc, lra.id)?);
     let path = format!(in alloc; "/lra/{id}/join")?;
@@ -182,7 +202,7 @@ fn join_with<R: Host>(agent: &Agent<R>, lra: &Lra, links: &[Given]) -> Result<Re
 }
 
 /// Returns the text of the links with which a service joins: its `Link` field, or its body.
-fn links_text<'a>(errand: &'a Errand) -> &'a str {
+fn links_text<'a>(errand: &'a Handover) -> &'a str {
     let link = errand.request.fields.link.as_str();
     if !link.is_empty() {
         return link;
@@ -195,7 +215,11 @@ fn links_text<'a>(errand: &'a Errand) -> &'a str {
 }
 
 /// Joins an LRA: `PUT /lra-coordinator/UID?TimeLimit=MS`, with a `Link` field or a body.
-pub fn join<R: Host>(agent: &Agent<R>, errand: &Errand, lra: &Lra) -> Result<Reply, Fail> {
+pub fn join<R: Platform>(
+    agent: &Agent<R>,
+    errand: &Handover,
+    lra: &NamedLra,
+) -> Result<ServiceAnswer, Fail> {
     if time_in(said(errand.query(), "TimeLimit")) != Some(0) {
         agent.complain("a participant's own TimeLimit isn't kept");
     }
@@ -210,7 +234,7 @@ pub fn join<R: Host>(agent: &Agent<R>, errand: &Errand, lra: &Lra) -> Result<Rep
 }
 
 /// Returns the number of the participant that leaves. The text has its links, or its recovery URL.
-fn leaver<R: Host>(agent: &Agent<R>, lra: &Lra, text: &str) -> Result<Option<u8>, Fail> {
+fn leaver<R: Platform>(agent: &Agent<R>, lra: &NamedLra, text: &str) -> Result<Option<u8>, Fail> {
     if !text.contains('<') && text.contains("/recovery/") {
         return Ok(member_in(text));
     }
@@ -225,7 +249,11 @@ fn leaver<R: Host>(agent: &Agent<R>, lra: &Lra, text: &str) -> Result<Option<u8>
 }
 
 /// Leaves an LRA: `PUT /lra-coordinator/UID/remove`, with the text of the links in its body.
-pub fn leave<R: Host>(agent: &Agent<R>, errand: &Errand, lra: &Lra) -> Result<Reply, Fail> {
+pub fn leave<R: Platform>(
+    agent: &Agent<R>,
+    errand: &Handover,
+    lra: &NamedLra,
+) -> Result<ServiceAnswer, Fail> {
     let alloc = agent.alloc;
     let text = str::from_utf8(&errand.request.body).unwrap_or("");
     let Some(member) = leaver(agent, lra, text)? else {

@@ -3,7 +3,7 @@ ghost use Rattle.std.specs.Prelude.{◌≡◌, ◌≤◌, ◌<◌, ℕ, List, Ma
 ghost use Rattle.std.specs.Char.{digit_value};
 ghost use Rattle.lra_gateway.specs.Keys.{SpellByte, SpellKey};
 
-use lra_narayana::Key;
+use wire_narayana::Key;
 
 /// The number of hexadecimal digits of a key.
 const DIGITS: usize = 64;

@@ -1,44 +1,44 @@
 // Lists of LRAs, and recovery.
 
-use crate::agent::{Agent, Host};
-use crate::asking::{Answer, Question, ask_node, ask_now, look_at};
+use crate::agent::{Agent, Platform};
+use crate::args::Door;
+use crate::asking::{NodeAnswer, Question, ask_node, ask_now, look_at};
 use crate::ending::status_in_time;
 use crate::exchange::Fail;
 use crate::gateway::Group;
-use crate::handing::{Errand, hand};
-use crate::names::{Lra, url_of};
+use crate::handing::{Handover, hand};
+use crate::names::{NamedLra, url_of};
 use crate::query::said;
-use crate::reply::{Reply, json, plain, refusal};
+use crate::reply::{ServiceAnswer, json, plain, refusal};
 use crate::showing::{is_failed, is_recovering};
-use crate::words::Door;
 use http::Method;
-use lra_id::{LraId, LraStatus};
-use lra_narayana::{Repeat, id_in, text_of};
 use serde_json::Value;
+use state_ids::{LraId, LraStatus};
+use wire_narayana::{Repeat, id_in, text_of};
 
 /// The most pages of a list: eight homes of 256 LRAs.
 const MAX_PAGES: usize = 64;
 
 /// The LRAs that a list has.
 #[derive(Clone, Copy, PartialEq, Eq, Debug)]
-pub enum Wanted {
+pub enum ListFilter {
     All,
     Status(LraStatus),
     Recovering,
     Failed,
 }
 
-fn is_wanted(wanted: Wanted, status: LraStatus) -> bool {
+fn is_wanted(wanted: ListFilter, status: LraStatus) -> bool {
     match wanted {
-        Wanted::All => true,
-        Wanted::Status(other) => status == other,
-        Wanted::Recovering => is_recovering(status),
-        Wanted::Failed => is_failed(status),
+        ListFilter::All => true,
+        ListFilter::Status(other) => status == other,
+        ListFilter::Recovering => is_recovering(status),
+        ListFilter::Failed => is_failed(status),
     }
 }
 
 /// Adds what is known about an LRA to an array.
-fn push_data<R: Host>(
+fn push_data<R: Platform>(
     agent: &Agent<R>,
     text: &mut String,
     group: &Group,
@@ -57,7 +57,7 @@ fn push_data<R: Host>(
 }
 
 /// Returns what is known about an LRA: `GET /lra-coordinator/UID`.
-pub fn info<R: Host>(agent: &Agent<R>, lra: &Lra) -> Result<Reply, Fail> {
+pub fn info<R: Platform>(agent: &Agent<R>, lra: &NamedLra) -> Result<ServiceAnswer, Fail> {
     let answer = status_in_time(agent, lra)?;
     let Ok(status) = LraStatus::from_name(answer.text("status")) else {
         return Ok(refusal(agent.alloc, &answer)?);
@@ -73,12 +73,12 @@ fn text_of_row<'a>(row: &'a Value, name: &str) -> &'a str {
 }
 
 /// Adds the wanted rows of a page.
-fn push_page<R: Host>(
+fn push_page<R: Platform>(
     agent: &Agent<R>,
     text: &mut String,
     group: &Group,
-    page: &Answer,
-    wanted: Wanted,
+    page: &NodeAnswer,
+    wanted: ListFilter,
 ) -> Result<(), Fail> {
     let Some(rows) = page.list("lras") else {
         return Err(Fail::Unheard);
@@ -97,11 +97,11 @@ fn push_page<R: Host>(
 }
 
 /// Returns what a node lists, page by page, as an array.
-fn listed<R: Host>(
+fn listed<R: Platform>(
     agent: &Agent<R>,
     group: &Group,
     door: &Door,
-    wanted: Wanted,
+    wanted: ListFilter,
 ) -> Result<String, Fail> {
     let alloc = agent.alloc;
     let mut text = String::from_str(alloc, "[")?;
@@ -141,11 +141,11 @@ fn push_array(text: &mut String, other: &str) -> Result<(), Fail> {
 }
 
 /// Returns what the gateway beside a node lists, as an array.
-fn listed_there<R: Host>(
+fn listed_there<R: Platform>(
     agent: &Agent<R>,
     group: &Group,
     door: &Door,
-    errand: &Errand,
+    errand: &Handover,
 ) -> Result<String, Fail> {
     let reply = hand(agent, group, door, errand, Repeat::Never)?;
     if reply.code != 200 {
@@ -156,11 +156,11 @@ fn listed_there<R: Host>(
 
 /// Returns the LRAs of a group as an array, from the first node that lists them, otherwise from the
 /// gateway beside another node.
-fn group_list<R: Host>(
+fn group_list<R: Platform>(
     agent: &Agent<R>,
     group: &Group,
-    errand: &Errand,
-    wanted: Wanted,
+    errand: &Handover,
+    wanted: ListFilter,
 ) -> Result<String, Fail> {
     let mut last = Err(Fail::Unsent);
     for door in group.doors.iter() {
@@ -178,7 +178,11 @@ fn group_list<R: Host>(
 }
 
 /// Returns the wanted LRAs of all groups.
-pub fn list<R: Host>(agent: &Agent<R>, errand: &Errand, wanted: Wanted) -> Result<Reply, Fail> {
+pub fn list<R: Platform>(
+    agent: &Agent<R>,
+    errand: &Handover,
+    wanted: ListFilter,
+) -> Result<ServiceAnswer, Fail> {
     let mut text = String::from_str(agent.alloc, "[")?;
     for group in agent.gateway.groups.iter() {
         if !errand.is_for(group) {
@@ -192,19 +196,19 @@ pub fn list<R: Host>(agent: &Agent<R>, errand: &Errand, wanted: Wanted) -> Resul
 }
 
 /// Returns all LRAs, or those with a status: `GET /lra-coordinator?Status=STATUS`.
-pub fn list_by<R: Host>(agent: &Agent<R>, errand: &Errand) -> Result<Reply, Fail> {
+pub fn list_by<R: Platform>(agent: &Agent<R>, errand: &Handover) -> Result<ServiceAnswer, Fail> {
     let wanted = said(errand.query(), "Status");
     if wanted.is_empty() {
-        return list(agent, errand, Wanted::All);
+        return list(agent, errand, ListFilter::All);
     }
     match LraStatus::from_name(wanted) {
-        Ok(status) => list(agent, errand, Wanted::Status(status)),
+        Ok(status) => list(agent, errand, ListFilter::Status(status)),
         Err(_) => Ok(plain(agent.alloc, 400, "Status")?),
     }
 }
 
 /// Purges an LRA: `DELETE /lra-coordinator/recovery/UID`.
-pub fn purge<R: Host>(agent: &Agent<R>, lra: &Lra) -> Result<Reply, Fail> {
+pub fn purge<R: Platform>(agent: &Agent<R>, lra: &NamedLra) -> Result<ServiceAnswer, Fail> {
     let alloc = agent.alloc;
     let id = text_of(alloc, lra.id)?;
     let path = format!(in alloc; "/lra/{id}")?;

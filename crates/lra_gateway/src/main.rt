@@ -3,6 +3,8 @@
 #![tactic(auto)]
 
 mod agent;
+mod arg_texts;
+mod args;
 mod asking;
 mod ending;
 mod exchange;
@@ -23,15 +25,12 @@ mod service;
 mod serving;
 mod showing;
 mod starting;
-mod texts;
-mod words;
 
-use crate::agent::Host;
+use crate::agent::Platform;
+use crate::args::{asked_by, key_of};
 use crate::gateway::{Gateway, gateway_of};
 use crate::run::run_gateway;
-use crate::words::{asked_by, key_of};
-use lra_narayana::Key;
-use lra_words::{COMMIT, KIT, Unasked, VERSION, is_version};
+use program_args::{ArgsError, COMMIT, KIT, VERSION, is_version};
 use std::alloc::Global;
 use std::env;
 use std::io::Read;
@@ -40,6 +39,7 @@ use std::process::ExitCode;
 use std::sync::Wait;
 use std::thread::Threads;
 use std::time::Clock;
+use wire_narayana::Key;
 
 const USAGE: &str =
     "usage: LRA_GATEWAY_KEY=HEX lra_gateway listen=IP:PORT base=URL calls=PORT|calls=IP:PORT via=HOST:PORT [limit=MS] [wait=MS] [again=MS] [allow=HOST[:PORT],..] [short=NAME=HOST:PORT/PATH].. group=HOST:PORT[/PORT],.. .. | --version";
@@ -48,11 +48,11 @@ const USAGE: &str =
 const KEY: &str = "LRA_GATEWAY_KEY";
 
 /// Makes the gateway that the words ask for, with this key.
-fn asked_with(alloc: Global, words: &[String], key: &Key) -> Result<Gateway, Unasked> {
+fn asked_with(alloc: Global, words: &[String], key: &Key) -> Result<Gateway, ArgsError> {
     let asked = asked_by(alloc, words)?;
     match gateway_of(alloc, asked, key) {
         Ok(gateway) => Ok(gateway),
-        Err(_) => Err(Unasked::NoMemory),
+        Err(_) => Err(ArgsError::NoMemory),
     }
 }
 
@@ -80,8 +80,8 @@ fn main(rt: HostRuntime) -> ExitCode {
     };
     match asked_with(alloc, &words, &key) {
         Ok(gateway) => ExitCode::from(serve(&rt, alloc, &gateway, rt.reader())),
-        Err(Unasked::NoMemory) => ExitCode::from(1),
-        Err(Unasked::OtherWords) => {
+        Err(ArgsError::NoMemory) => ExitCode::from(1),
+        Err(ArgsError::OtherWords) => {
             let _ = eprintln!(rt; "{}", USAGE);
             ExitCode::from(2)
         }

@@ -1,25 +1,28 @@
 // The participants of an LRA, as its home's port for operators lists them.
 
-use crate::agent::{Agent, Host};
-use crate::asking::{Answer, ask, look_at};
+use crate::agent::{Agent, Platform};
+use crate::asking::{NodeAnswer, ask, look_at};
 use crate::exchange::Fail;
-use crate::names::Lra;
-use crate::reply::{Reply, plain};
-use lra_narayana::{Given, Kind, open, text_of};
+use crate::names::NamedLra;
+use crate::reply::{ServiceAnswer, plain};
 use serde_json::Value;
 use url::{Position, Url};
+use wire_narayana::{GivenLink, LinkKind, open, text_of};
 
 /// All kinds of links, in the order in which they are listed.
-const KINDS: [Kind; 5] = [
-    Kind::Compensate,
-    Kind::Complete,
-    Kind::Status,
-    Kind::Forget,
-    Kind::After,
+const KINDS: [LinkKind; 5] = [
+    LinkKind::Compensate,
+    LinkKind::Complete,
+    LinkKind::Status,
+    LinkKind::Forget,
+    LinkKind::After,
 ];
 
 /// Returns what an LRA's home tells operators about it, or `None` if it doesn't know the LRA.
-pub fn looked_up<R: Host>(agent: &Agent<R>, lra: &Lra) -> Result<Option<Answer>, Fail> {
+pub fn looked_up<R: Platform>(
+    agent: &Agent<R>,
+    lra: &NamedLra,
+) -> Result<Option<NodeAnswer>, Fail> {
     let Some(port) = lra.home.operate else {
         return Err(Fail::Unsent);
     };
@@ -40,7 +43,7 @@ pub fn looked_up<R: Host>(agent: &Agent<R>, lra: &Lra) -> Result<Option<Answer>,
 }
 
 /// Returns the link of a kind with which a member joined, as the port for operators states it.
-fn link_of(member: &Value, kind: Kind) -> Option<&str> {
+fn link_of(member: &Value, kind: LinkKind) -> Option<&str> {
     member.get("links")?.get(kind.name())?.as_str()
 }
 
@@ -55,15 +58,15 @@ fn number_of(member: &Value) -> Option<u8> {
 
 /// Returns the link that distinguishes a participant from others: the link to compensate, otherwise
 /// the link for the notice of the end.
-fn own_link(links: &[Given]) -> Option<&Given> {
-    match links.iter().find(|link| link.kind == Kind::Compensate) {
+fn own_link(links: &[GivenLink]) -> Option<&GivenLink> {
+    match links.iter().find(|link| link.kind == LinkKind::Compensate) {
         Some(link) => Some(link),
-        None => links.iter().find(|link| link.kind == Kind::After),
+        None => links.iter().find(|link| link.kind == LinkKind::After),
     }
 }
 
 /// Returns the number of the participant that joined with these links.
-pub fn found_in(answer: &Answer, links: &[Given]) -> Option<u8> {
+pub fn found_in(answer: &NodeAnswer, links: &[GivenLink]) -> Option<u8> {
     let own = own_link(links)?;
     for member in answer.list("members")?.iter() {
         if is_participant(member) && link_of(member, own.kind) == Some(own.url.as_str()) {
@@ -74,11 +77,11 @@ pub fn found_in(answer: &Answer, links: &[Given]) -> Option<u8> {
 }
 
 /// Adds a link with which a member joined, in the form in which the member gave it.
-fn push_link<R: Host>(
+fn push_link<R: Platform>(
     agent: &Agent<R>,
     text: &mut String,
-    lra: &Lra,
-    kind: Kind,
+    lra: &NamedLra,
+    kind: LinkKind,
     link: &str,
 ) -> Result<(), Fail> {
     let alloc = agent.alloc;
@@ -97,7 +100,11 @@ fn push_link<R: Host>(
 }
 
 /// Returns the links with which a member joined, in the form in which the member gave them.
-fn links_text<R: Host>(agent: &Agent<R>, lra: &Lra, member: &Value) -> Result<String, Fail> {
+fn links_text<R: Platform>(
+    agent: &Agent<R>,
+    lra: &NamedLra,
+    member: &Value,
+) -> Result<String, Fail> {
     let mut text = String::new(agent.alloc);
     for kind in KINDS {
         if let Some(link) = link_of(member, kind) {
@@ -108,7 +115,11 @@ fn links_text<R: Host>(agent: &Agent<R>, lra: &Lra, member: &Value) -> Result<St
 }
 
 /// Returns the links of a participant: `GET /lra-coordinator/recovery/UID/NUMBER`.
-pub fn links_of_member<R: Host>(agent: &Agent<R>, lra: &Lra, number: u8) -> Result<Reply, Fail> {
+pub fn links_of_member<R: Platform>(
+    agent: &Agent<R>,
+    lra: &NamedLra,
+    number: u8,
+) -> Result<ServiceAnswer, Fail> {
     let alloc = agent.alloc;
     let looked = looked_up(agent, lra)?;
     let members = looked.as_ref().and_then(|answer| answer.list("members"));

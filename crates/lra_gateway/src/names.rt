@@ -1,15 +1,15 @@
 // LRAs and participants, as services name them.
 
 use crate::agent::Agent;
+use crate::args::Door;
 use crate::gateway::{Gateway, Group};
-use crate::words::Door;
-use lra_id::LraId;
-use lra_narayana::{id_in, text_of};
+use state_ids::LraId;
 use std::alloc::{AllocError, Global};
+use wire_narayana::{id_in, text_of};
 
 /// An LRA: its group, its id there, and how its home is reached.
 #[derive(Clone, Copy)]
-pub struct Lra<'a> {
+pub struct NamedLra<'a> {
     pub group: &'a Group,
     pub id: LraId,
     pub home: &'a Door,
@@ -48,12 +48,12 @@ pub fn name_in(alloc: Global, text: &str) -> Result<Option<Name>, AllocError> {
 }
 
 /// Returns the LRA of a name, if its group and its home exist.
-pub fn lra_of(gateway: &Gateway, name: Option<Name>) -> Option<Lra> {
+pub fn lra_of(gateway: &Gateway, name: Option<Name>) -> Option<NamedLra> {
     let Name { number, id } = name?;
     let group = gateway.group(number)?;
     let place = usize::from(id.home().number()).saturating_sub(1);
     let home = group.doors.get(place)?;
-    Some(Lra { group, id, home })
+    Some(NamedLra { group, id, home })
 }
 
 /// Returns an id as services know it, with the group's number behind it unless that is the first
@@ -61,7 +61,7 @@ pub fn lra_of(gateway: &Gateway, name: Option<Name>) -> Option<Lra> {
 /// their rows.
 pub fn url_of<R>(agent: &Agent<R>, group: &Group, id: LraId) -> Result<String, AllocError> {
     let (alloc, number) = (agent.alloc, group.number);
-    let url = lra_narayana::url_of(alloc, agent.gateway.base.as_str(), id)?;
+    let url = wire_narayana::url_of(alloc, agent.gateway.base.as_str(), id)?;
     if number <= 1 {
         return Ok(url);
     }
@@ -77,7 +77,7 @@ pub fn recovery_of<R>(
 ) -> Result<String, AllocError> {
     let (alloc, number, base) = (agent.alloc, group.number, agent.gateway.base.as_str());
     if number <= 1 {
-        return lra_narayana::recovery_of(alloc, base, id, member);
+        return wire_narayana::recovery_of(alloc, base, id, member);
     }
     let id = text_of(alloc, id)?;
     format!(in alloc; "{base}/lra-coordinator/recovery/{id}.{number}/{member}")

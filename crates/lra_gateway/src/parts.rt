@@ -1,10 +1,10 @@
 // Single words of the command line.
 
-use lra_narayana::Short;
-use lra_sockets::Peer;
-use lra_words::{Unasked, host_of, number_of, peer_of, port_of};
+use node_sockets::Peer;
+use program_args::{ArgsError, host_of, number_of, peer_of, port_of};
 use std::alloc::Global;
 use std::net::{Ipv4Addr, SocketAddr, SocketAddrV4};
+use wire_narayana::Short;
 
 /// The most letters of the name of a short form.
 const MOST_NAME: usize = 16;
@@ -42,16 +42,16 @@ pub(crate) fn calls_of(
     alloc: Global,
     calls: &str,
     via: Option<&str>,
-) -> Result<(SocketAddr, Option<Peer>), Unasked> {
+) -> Result<(SocketAddr, Option<Peer>), ArgsError> {
     let Some(via) = via else {
         let Some(port) = port_of(calls) else {
-            return Err(Unasked::OtherWords);
+            return Err(ArgsError::OtherWords);
         };
         let address = SocketAddrV4::new(Ipv4Addr::UNSPECIFIED, port);
         return Ok((SocketAddr::V4(address), None));
     };
     let Some(address) = address_of(calls) else {
-        return Err(Unasked::OtherWords);
+        return Err(ArgsError::OtherWords);
     };
     match peer_of(alloc, via) {
         Ok(peer) => Ok((address, Some(peer))),
@@ -102,20 +102,20 @@ fn is_place(text: &str) -> bool {
 
 /// Returns the hosts that a text allows, separated by commas. If there is no text, any host is
 /// allowed.
-pub(crate) fn allowed_by(alloc: Global, text: Option<&str>) -> Result<Vec<String>, Unasked> {
+pub(crate) fn allowed_by(alloc: Global, text: Option<&str>) -> Result<Vec<String>, ArgsError> {
     let mut hosts = Vec::new(alloc);
     let Some(text) = text else {
         return Ok(hosts);
     };
     for host in text.split(',') {
         if !is_place(host) {
-            return Err(Unasked::OtherWords);
+            return Err(ArgsError::OtherWords);
         }
         let Ok(host) = String::from_str(alloc, host) else {
-            return Err(Unasked::NoMemory);
+            return Err(ArgsError::NoMemory);
         };
         if hosts.push(host).is_err() {
-            return Err(Unasked::NoMemory);
+            return Err(ArgsError::NoMemory);
         }
     }
     Ok(hosts)
@@ -151,25 +151,25 @@ fn is_front(text: &str) -> bool {
 }
 
 /// Returns the short form that a text describes: its name, and the beginning for which it stands.
-pub(crate) fn short_of(alloc: Global, text: &str) -> Result<Short, Unasked> {
+pub(crate) fn short_of(alloc: Global, text: &str) -> Result<Short, ArgsError> {
     let Some((name, long)) = text.split_once('=') else {
-        return Err(Unasked::OtherWords);
+        return Err(ArgsError::OtherWords);
     };
     if !is_name(name) || !is_front(long) {
-        return Err(Unasked::OtherWords);
+        return Err(ArgsError::OtherWords);
     }
     match Short::new(alloc, name, long) {
         Ok(short) => Ok(short),
-        Err(_) => Err(Unasked::NoMemory),
+        Err(_) => Err(ArgsError::NoMemory),
     }
 }
 
 /// Returns how to reach the node that a text names.
-fn door_of(alloc: Global, text: &str) -> Result<Door, Unasked> {
+fn door_of(alloc: Global, text: &str) -> Result<Door, ArgsError> {
     let (place, operate) = match text.split_once('/') {
         Some((place, port)) => {
             let Some(port) = port_of(port) else {
-                return Err(Unasked::OtherWords);
+                return Err(ArgsError::OtherWords);
             };
             (place, Some(port))
         }
@@ -182,13 +182,13 @@ fn door_of(alloc: Global, text: &str) -> Result<Door, Unasked> {
 }
 
 /// Returns how to reach the nodes of a group. The text separates them by commas.
-pub(crate) fn doors_of(alloc: Global, text: &str) -> Result<Vec<Door>, Unasked> {
+pub(crate) fn doors_of(alloc: Global, text: &str) -> Result<Vec<Door>, ArgsError> {
     let mut doors = Vec::new(alloc);
     for part in text.split(',') {
         match door_of(alloc, part) {
             Ok(door) => {
                 if doors.push(door).is_err() {
-                    return Err(Unasked::NoMemory);
+                    return Err(ArgsError::NoMemory);
                 }
             }
             Err(fault) => return Err(fault),

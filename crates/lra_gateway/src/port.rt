@@ -1,7 +1,7 @@
 // The place where services or the nodes of a group connect: connections whose request isn't there
 // yet, and those whose request is.
 
-use lra_sockets::AcceptQueue;
+use node_sockets::AcceptQueue;
 use std::alloc::Global;
 use std::collections::VecDeque;
 use std::net::{SocketAddr, TcpStream};
@@ -9,7 +9,7 @@ use std::sync::{Condvar, Mutex, Wait};
 
 // The data that the lock guards.
 #[derive(Drop)]
-struct Waiting {
+struct Backlog {
     streams: VecDeque<TcpStream>,
     has_ended: bool,
 }
@@ -24,7 +24,7 @@ pub struct Port {
     /// others.
     pub queue: AcceptQueue,
     /// Connections whose request is there, for the workers.
-    ready: Mutex<Waiting>,
+    ready: Mutex<Backlog>,
     came: Condvar,
 }
 
@@ -34,7 +34,7 @@ impl Port {
             address,
             is_loopback,
             queue: AcceptQueue::new(alloc),
-            ready: Mutex::new(Waiting {
+            ready: Mutex::new(Backlog {
                 streams: VecDeque::new(alloc),
                 has_ended: false,
             }),

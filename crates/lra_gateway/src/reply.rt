@@ -1,15 +1,15 @@
 // Answers to services.
 
-use crate::asking::Answer;
+use crate::asking::NodeAnswer;
 use crate::exchange::{Fail, field, length_field};
 use http::StatusCode;
-use lra_http::{Bytes, Fields, Response};
 use std::alloc::{AllocError, Global};
 use std::str;
+use wire_http::{Bytes, Fields, Response};
 
 /// An answer to a service.
 #[derive(Drop)]
-pub struct Reply {
+pub struct ServiceAnswer {
     pub code: u16,
     pub is_json: bool,
     pub text: String,
@@ -24,8 +24,8 @@ pub const LRA: &str = "Long-Running-Action";
 pub const RECOVERY: &str = "Long-Running-Action-Recovery";
 
 /// Makes an answer with a code and a text.
-pub fn plain(alloc: Global, code: u16, text: &str) -> Result<Reply, AllocError> {
-    Ok(Reply {
+pub fn plain(alloc: Global, code: u16, text: &str) -> Result<ServiceAnswer, AllocError> {
+    Ok(ServiceAnswer {
         code,
         is_json: false,
         text: String::from_str(alloc, text)?,
@@ -34,8 +34,8 @@ pub fn plain(alloc: Global, code: u16, text: &str) -> Result<Reply, AllocError> 
 }
 
 /// Makes an answer with a JSON text.
-pub fn json(text: String) -> Reply {
-    Reply {
+pub fn json(text: String) -> ServiceAnswer {
+    ServiceAnswer {
         code: 200,
         is_json: true,
         text,
@@ -49,8 +49,8 @@ pub fn made(
     code: u16,
     name: &'static str,
     url: String,
-) -> Result<Reply, AllocError> {
-    Ok(Reply {
+) -> Result<ServiceAnswer, AllocError> {
+    Ok(ServiceAnswer {
         code,
         is_json: false,
         text: String::from_str(alloc, url.as_str())?,
@@ -59,7 +59,7 @@ pub fn made(
 }
 
 /// Makes the answer for a node's refusal, as services know it.
-pub fn refusal(alloc: Global, answer: &Answer) -> Result<Reply, AllocError> {
+pub fn refusal(alloc: Global, answer: &NodeAnswer) -> Result<ServiceAnswer, AllocError> {
     let code = match answer.code {
         400 => 400,
         404 | 410 => 404,
@@ -70,7 +70,7 @@ pub fn refusal(alloc: Global, answer: &Answer) -> Result<Reply, AllocError> {
 }
 
 /// Makes the answer for a service if no node answered.
-pub fn failure(alloc: Global, fail: Fail) -> Result<Reply, AllocError> {
+pub fn failure(alloc: Global, fail: Fail) -> Result<ServiceAnswer, AllocError> {
     let text = match fail {
         Fail::NoMemory => "no memory",
         Fail::Unsent => "no node can be reached",
@@ -88,12 +88,12 @@ fn text_in<'a>(response: &'a Response, name: &str) -> &'a str {
 }
 
 /// Makes the answer from the response of another gateway.
-pub fn reply_of(alloc: Global, response: &Response) -> Result<Reply, AllocError> {
+pub fn reply_of(alloc: Global, response: &Response) -> Result<ServiceAnswer, AllocError> {
     let code = response.status.as_u16();
     let text = str::from_utf8(response.body.as_slice()).unwrap_or("");
     let url = String::from_str(alloc, text_in(response, "Location"))?;
     let name = if code == 201 { LRA } else { RECOVERY };
-    Ok(Reply {
+    Ok(ServiceAnswer {
         code,
         is_json: text_in(response, "Content-Type") == "application/json",
         text: String::from_str(alloc, text)?,
@@ -106,8 +106,8 @@ pub fn reply_of(alloc: Global, response: &Response) -> Result<Reply, AllocError>
 }
 
 /// Makes the response for an answer.
-pub fn response_of(alloc: Global, reply: Reply) -> Result<Response, AllocError> {
-    let Reply {
+pub fn response_of(alloc: Global, reply: ServiceAnswer) -> Result<Response, AllocError> {
+    let ServiceAnswer {
         code,
         is_json,
         text,

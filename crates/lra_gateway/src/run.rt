@@ -1,9 +1,9 @@
 // The threads of a gateway.
 
-use crate::agent::{Agent, Host};
+use crate::agent::{Agent, Platform};
 use crate::gateway::Gateway;
 use crate::serving::{accept, look, serve};
-use lra_sockets::{StopReason, door_of};
+use node_sockets::{StopReason, door_of};
 use std::alloc::{AllocError, Global};
 use std::io::{ErrorKind, Read};
 use std::net::{SocketAddr, TcpListener, TcpStream};
@@ -18,7 +18,7 @@ const CALLS_OF_NODE: usize = 4;
 
 /// The work of a thread for the port of this number. 0 is the port for services.
 #[derive(Clone, Copy, PartialEq, Eq)]
-enum Role {
+enum PortRole {
     Accept(u8),
     Look(u8),
     Serve(u8),
@@ -26,12 +26,12 @@ enum Role {
 
 /// The sockets at which a gateway accepts connections: of services, and of the nodes of each group.
 #[derive(Drop)]
-struct Listeners {
+struct GatewayListeners {
     services: TcpListener,
     groups: Vec<TcpListener>,
 }
 
-impl Listeners {
+impl GatewayListeners {
     fn of(&self, number: u8) -> &TcpListener {
         let place = usize::from(number).wrapping_sub(1);
         self.groups.get(place).unwrap_or(&self.services)
@@ -39,17 +39,17 @@ impl Listeners {
 }
 
 /// Adds the roles of a port's threads.
-fn push_roles(roles: &mut Vec<Role>, number: u8, workers: usize) -> Result<(), AllocError> {
-    roles.push(Role::Accept(number))?;
-    roles.push(Role::Look(number))?;
+fn push_roles(roles: &mut Vec<PortRole>, number: u8, workers: usize) -> Result<(), AllocError> {
+    roles.push(PortRole::Accept(number))?;
+    roles.push(PortRole::Look(number))?;
     for _worker in 0..workers {
-        roles.push(Role::Serve(number))?;
+        roles.push(PortRole::Serve(number))?;
     }
     Ok(())
 }
 
 /// Returns the roles of all threads.
-fn roles_of(alloc: Global, gateway: &Gateway) -> Result<Vec<Role>, AllocError> {
+fn roles_of(alloc: Global, gateway: &Gateway) -> Result<Vec<PortRole>, AllocError> {
     let mut roles = Vec::new(alloc);
     push_roles(&mut roles, 0, SERVICES)?;
     for group in gateway.groups.iter() {
@@ -60,12 +60,18 @@ fn roles_of(alloc: Global, gateway: &Gateway) -> Result<Vec<Role>, AllocError> {
 }
 
 /// Does the work of a role until the program is to end.
-fn play<R: Host>(rt: &R, alloc: Global, gateway: &Gateway, listeners: &Listeners, role: Role) {
+fn play<R: Platform>(
+    rt: &R,
+    alloc: Global,
+    gateway: &Gateway,
+    listeners: &GatewayListeners,
+    role: PortRole,
+) {
     let agent = Agent { rt, alloc, gateway };
     match role {
-        Role::Accept(number) => accept(&agent, gateway.port_of(number), listeners.of(number)),
-        Role::Look(number) => look(&agent, gateway.port_of(number)),
-        Role::Serve(number) => serve(&agent, number),
+        PortRole::Accept(number) => accept(&agent, gateway.port_of(number), listeners.of(number)),
+        PortRole::Look(number) => look(&agent, gateway.port_of(number)),
+        PortRole::Serve(number) => serve(&agent, number),
     }
 }
 
@@ -75,11 +81,11 @@ fn start<'s, E, R>(
     rt: &'s R,
     alloc: Global,
     gateway: &'s Gateway,
-    listeners: &'s Listeners,
-    role: Role,
+    listeners: &'s GatewayListeners,
+    role: PortRole,
 ) -> bool
 where
-    R: Threads + Host + Sync,
+    R: Threads + Platform + Sync,
 {
     scope
         .spawn(move || play(rt, alloc, gateway, listeners, role))
@@ -92,10 +98,10 @@ fn start_all<'s, E, R>(
     rt: &'s R,
     alloc: Global,
     gateway: &'s Gateway,
-    listeners: &'s Listeners,
+    listeners: &'s GatewayListeners,
 ) -> bool
 where
-    R: Threads + Host + Sync,
+    R: Threads + Platform + Sync,
 {
     let Ok(roles) = roles_of(alloc, gateway) else {
         return false;
@@ -122,7 +128,7 @@ fn drain<I: Read + Drop>(mut input: I) {
 }
 
 /// Makes all threads end. Those that accept connections are woken by a connection.
-fn end<R: Host>(rt: &R, gateway: &Gateway) {
+fn end<R: Platform>(rt: &R, gateway: &Gateway) {
     let _first = gateway.signal.end(rt, StopReason::Program);
     gateway.port.end(rt);
     let _ = TcpStream::connect(rt, door_of(gateway.port.address));
@@ -137,11 +143,11 @@ fn run<R, I: Read + Drop + Send>(
     rt: &R,
     alloc: Global,
     gateway: &Gateway,
-    listeners: &Listeners,
+    listeners: &GatewayListeners,
     input: I,
 ) -> bool
 where
-    R: Threads + Host + Sync,
+    R: Threads + Platform + Sync,
 {
     thread::scope(thread::scope_env(), rt, move |scope| {
         let is_whole = start_all(scope, rt, alloc, gateway, listeners);
@@ -154,7 +160,7 @@ where
 }
 
 /// Binds the port of an address. Logs it if that fails.
-fn bound<R: Host>(rt: &R, address: SocketAddr) -> Option<TcpListener> {
+fn bound<R: Platform>(rt: &R, address: SocketAddr) -> Option<TcpListener> {
     match TcpListener::bind(rt, address) {
         Ok(listener) => Some(listener),
         Err(_) => {
@@ -165,13 +171,13 @@ fn bound<R: Host>(rt: &R, address: SocketAddr) -> Option<TcpListener> {
 }
 
 /// Binds all ports.
-fn listeners_of<R: Host>(rt: &R, alloc: Global, gateway: &Gateway) -> Option<Listeners> {
+fn listeners_of<R: Platform>(rt: &R, alloc: Global, gateway: &Gateway) -> Option<GatewayListeners> {
     let services = bound(rt, gateway.port.address)?;
     let mut groups = Vec::new(alloc);
     for group in gateway.groups.iter() {
         groups.push(bound(rt, group.port.address)?).ok()?;
     }
-    Some(Listeners { services, groups })
+    Some(GatewayListeners { services, groups })
 }
 
 /// Serves services and nodes until the input ends, and returns the exit status: 1 if a port or a
@@ -183,7 +189,7 @@ pub fn run_gateway<R, I: Read + Drop + Send>(
     input: I,
 ) -> u8
 where
-    R: Threads + Host + Sync,
+    R: Threads + Platform + Sync,
 {
     let Some(listeners) = listeners_of(rt, alloc, gateway) else {
         return 1;

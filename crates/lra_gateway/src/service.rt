@@ -1,21 +1,21 @@
 // Serving services: Narayana's coordinator interface.
 
-use crate::agent::{Agent, Host};
+use crate::agent::{Agent, Platform};
 use crate::ending::{end, status};
 use crate::exchange::Fail;
-use crate::handing::{Errand, errand_of, hand};
+use crate::handing::{Handover, errand_of, hand};
 use crate::joining::{join, leave};
-use crate::listing::{Wanted, info, list, list_by, purge};
+use crate::listing::{ListFilter, info, list, list_by, purge};
 use crate::members::links_of_member;
-use crate::names::{Lra, lra_of, name_in};
-use crate::reply::{Reply, failure, plain};
+use crate::names::{NamedLra, lra_of, name_in};
+use crate::reply::{ServiceAnswer, failure, plain};
 use crate::starting::start;
-use lra_narayana::{Repeat, Request};
 use std::alloc::{AllocError, Global};
+use wire_narayana::{Repeat, ServiceRequest};
 
 /// What a request asks of an LRA.
 #[derive(Clone, Copy, PartialEq, Eq, Debug)]
-enum Act {
+enum ServiceCall {
     Join,
     Info,
     Status,
@@ -27,16 +27,16 @@ enum Act {
     Links(u8),
 }
 
-impl Act {
+impl ServiceCall {
     /// Whether each node can answer it, not only the LRA's home.
     fn is_told_by_all(self) -> bool {
-        self == Act::Info || self == Act::Status
+        self == ServiceCall::Info || self == ServiceCall::Status
     }
 
     /// Returns when it may be repeated: if the answer to a join was lost, only the gateway of the
     /// LRA's home looks the join up.
     fn repeat(self) -> Repeat {
-        if self == Act::Join {
+        if self == ServiceCall::Join {
             Repeat::Unsent
         } else {
             Repeat::Always
@@ -72,14 +72,14 @@ const NO_MOVE: Undone = Undone {
 };
 
 /// Returns what a method and the words behind an id ask of an LRA.
-fn act_of(method: &str, words: &[&str]) -> Result<Act, Undone> {
+fn act_of(method: &str, words: &[&str]) -> Result<ServiceCall, Undone> {
     match (method, words) {
-        ("PUT", []) => Ok(Act::Join),
-        ("GET", []) => Ok(Act::Info),
-        ("GET", ["status"]) => Ok(Act::Status),
-        ("PUT", ["close"]) => Ok(Act::Close),
-        ("PUT", ["cancel"]) => Ok(Act::Cancel),
-        ("PUT", ["remove"]) => Ok(Act::Leave),
+        ("PUT", []) => Ok(ServiceCall::Join),
+        ("GET", []) => Ok(ServiceCall::Info),
+        ("GET", ["status"]) => Ok(ServiceCall::Status),
+        ("PUT", ["close"]) => Ok(ServiceCall::Close),
+        ("PUT", ["cancel"]) => Ok(ServiceCall::Cancel),
+        ("PUT", ["remove"]) => Ok(ServiceCall::Leave),
         ("PUT", ["renew"]) => Err(NO_RENEWAL),
         (_, [] | ["status" | "close" | "cancel" | "remove" | "renew"]) => Err(NO_METHOD),
         _ => Err(NO_PATH),
@@ -87,11 +87,11 @@ fn act_of(method: &str, words: &[&str]) -> Result<Act, Undone> {
 }
 
 /// Returns what a method and the words behind an id ask of an LRA's recovery.
-fn recovery_of(method: &str, words: &[&str]) -> Result<Act, Undone> {
+fn recovery_of(method: &str, words: &[&str]) -> Result<ServiceCall, Undone> {
     match (method, words) {
-        ("DELETE", []) => Ok(Act::Purge),
+        ("DELETE", []) => Ok(ServiceCall::Purge),
         ("GET", [number]) => match number.parse::<u8>() {
-            Ok(number) => Ok(Act::Links(number)),
+            Ok(number) => Ok(ServiceCall::Links(number)),
             Err(_) => Err(NO_PATH),
         },
         ("PUT", [_]) => Err(NO_MOVE),
@@ -112,32 +112,32 @@ fn parts_of(alloc: Global, path: &str) -> Result<Vec<&str>, AllocError> {
 }
 
 /// Does what is asked of an LRA. This gateway asks the LRA's home itself, or each node can answer.
-fn act_here<R: Host>(
+fn act_here<R: Platform>(
     agent: &Agent<R>,
-    errand: &Errand,
-    lra: &Lra,
-    act: Act,
-) -> Result<Reply, Fail> {
+    errand: &Handover,
+    lra: &NamedLra,
+    act: ServiceCall,
+) -> Result<ServiceAnswer, Fail> {
     match act {
-        Act::Join => join(agent, errand, lra),
-        Act::Info => info(agent, lra),
-        Act::Status => status(agent, lra),
-        Act::Close => end(agent, lra, true),
-        Act::Cancel => end(agent, lra, false),
-        Act::Leave => leave(agent, errand, lra),
-        Act::Purge => purge(agent, lra),
-        Act::Links(number) => links_of_member(agent, lra, number),
+        ServiceCall::Join => join(agent, errand, lra),
+        ServiceCall::Info => info(agent, lra),
+        ServiceCall::Status => status(agent, lra),
+        ServiceCall::Close => end(agent, lra, true),
+        ServiceCall::Cancel => end(agent, lra, false),
+        ServiceCall::Leave => leave(agent, errand, lra),
+        ServiceCall::Purge => purge(agent, lra),
+        ServiceCall::Links(number) => links_of_member(agent, lra, number),
     }
 }
 
 /// Makes the gateway beside an LRA's home do what is asked. If each node can answer and that
 /// gateway doesn't, another node is asked.
-fn act_there<R: Host>(
+fn act_there<R: Platform>(
     agent: &Agent<R>,
-    errand: &Errand,
-    lra: &Lra,
-    act: Act,
-) -> Result<Reply, Fail> {
+    errand: &Handover,
+    lra: &NamedLra,
+    act: ServiceCall,
+) -> Result<ServiceAnswer, Fail> {
     if !act.is_told_by_all() {
         return hand(agent, lra.group, lra.home, errand, act.repeat());
     }
@@ -152,12 +152,12 @@ fn act_there<R: Host>(
 }
 
 /// Serves a request about the LRA of a name.
-fn serve_lra<R: Host>(
+fn serve_lra<R: Platform>(
     agent: &Agent<R>,
-    errand: &Errand,
+    errand: &Handover,
     name: &str,
-    asked: Result<Act, Undone>,
-) -> Result<Reply, Fail> {
+    asked: Result<ServiceCall, Undone>,
+) -> Result<ServiceAnswer, Fail> {
     let act = match asked {
         Ok(act) => act,
         Err(undone) => return Ok(plain(agent.alloc, undone.code, undone.text)?),
@@ -174,13 +174,17 @@ fn serve_lra<R: Host>(
 }
 
 /// Serves a request whose path begins with `/lra-coordinator`.
-fn serve_words<R: Host>(agent: &Agent<R>, errand: &Errand, words: &[&str]) -> Result<Reply, Fail> {
+fn serve_words<R: Platform>(
+    agent: &Agent<R>,
+    errand: &Handover,
+    words: &[&str],
+) -> Result<ServiceAnswer, Fail> {
     let method = errand.method();
     match (method, words) {
         ("GET", []) => list_by(agent, errand),
         ("POST", ["start"]) => start(agent, errand),
-        ("GET", ["recovery"]) => list(agent, errand, Wanted::Recovering),
-        ("GET", ["recovery", "failed"]) => list(agent, errand, Wanted::Failed),
+        ("GET", ["recovery"]) => list(agent, errand, ListFilter::Recovering),
+        ("GET", ["recovery", "failed"]) => list(agent, errand, ListFilter::Failed),
         (_, [] | ["start"] | ["recovery"] | ["recovery", "failed"]) => {
             Ok(plain(agent.alloc, NO_METHOD.code, NO_METHOD.text)?)
         }
@@ -191,7 +195,7 @@ fn serve_words<R: Host>(agent: &Agent<R>, errand: &Errand, words: &[&str]) -> Re
     }
 }
 
-fn serve_path<R: Host>(agent: &Agent<R>, errand: &Errand) -> Result<Reply, Fail> {
+fn serve_path<R: Platform>(agent: &Agent<R>, errand: &Handover) -> Result<ServiceAnswer, Fail> {
     let parts = parts_of(agent.alloc, errand.path())?;
     match parts.as_slice() {
         ["lra-coordinator", words @ ..] => serve_words(agent, errand, words),
@@ -200,7 +204,10 @@ fn serve_path<R: Host>(agent: &Agent<R>, errand: &Errand) -> Result<Reply, Fail>
 }
 
 /// Answers a service.
-pub fn serve_service<R: Host>(agent: &Agent<R>, request: &Request) -> Result<Reply, AllocError> {
+pub fn serve_service<R: Platform>(
+    agent: &Agent<R>,
+    request: &ServiceRequest,
+) -> Result<ServiceAnswer, AllocError> {
     let errand = errand_of(request);
     match serve_path(agent, &errand) {
         Ok(reply) => Ok(reply),

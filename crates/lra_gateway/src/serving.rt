@@ -1,21 +1,21 @@
 // The work of a gateway's threads: they accept connections, look for requests, and serve them.
 
-use crate::agent::{Agent, Host};
+use crate::agent::{Agent, Platform};
 use crate::exchange::{field, length_field};
 use crate::forward::serve_node;
 use crate::port::Port;
 use crate::reply::{plain, response_of};
 use crate::service::serve_service;
 use http::StatusCode;
-use lra_http::{Bytes, Fields, Response, Sink, Source, write_response};
-use lra_narayana::{Request, Told, read_request};
-use lra_sockets::{
+use node_sockets::{
     BufferedSocket, Cutoff, Limit, NoHolder, Readiness, SLICE_MS, Times, take_in, wait_for_room,
 };
 use std::alloc::{AllocError, Global};
 use std::io;
 use std::net::{IpAddr, TcpListener, TcpStream};
 use std::time::Duration;
+use wire_http::{Bytes, Fields, Response, Sink, Source, write_response};
+use wire_narayana::{AnswerToNode, ServiceRequest, read_request};
 
 /// How long the gateway waits for more of a request whose head is there, in milliseconds: a body in
 /// chunks may still be on its way.
@@ -50,7 +50,7 @@ fn is_foreign(port: &Port, came: &io::Result<TcpStream>) -> bool {
 }
 
 /// Accepts connections and puts them on a port's queue, until the program is to end.
-pub fn accept<R: Host>(agent: &Agent<R>, port: &Port, listener: &TcpListener) {
+pub fn accept<R: Platform>(agent: &Agent<R>, port: &Port, listener: &TcpListener) {
     for came in listener.incoming() {
         if !is_foreign(port, &came) {
             take_in(agent.rt, &port.queue, came);
@@ -64,7 +64,7 @@ pub fn accept<R: Host>(agent: &Agent<R>, port: &Port, listener: &TcpListener) {
 
 /// Looks for requests among the connections of a port, and hands the connections that have one to
 /// workers, until the program is to end. A silent connection doesn't hold up the others.
-pub fn look<R: Host>(agent: &Agent<R>, port: &Port) {
+pub fn look<R: Platform>(agent: &Agent<R>, port: &Port) {
     let mut silent = 0usize;
     for _ in agent.rt.forever() {
         let Some(pending) = port.queue.take(agent.rt) else {
@@ -94,7 +94,7 @@ fn is_gone(stream: &TcpStream) -> bool {
     stream.set_nonblocking(false).is_err() || is_gone
 }
 
-fn read<S: Source>(alloc: Global, reader: &mut S) -> Option<Request> {
+fn read<S: Source>(alloc: Global, reader: &mut S) -> Option<ServiceRequest> {
     read_request(alloc, reader).ok()
 }
 
@@ -103,7 +103,7 @@ fn write<W: Sink>(alloc: Global, writer: &mut W, response: &Response) {
 }
 
 /// Makes the response for a node.
-fn response_of_told(alloc: Global, told: Told) -> Result<Response, AllocError> {
+fn response_of_told(alloc: Global, told: AnswerToNode) -> Result<Response, AllocError> {
     let text = match told.word {
         Some(status) => status.name(),
         None => "",
@@ -121,10 +121,10 @@ fn response_of_told(alloc: Global, told: Told) -> Result<Response, AllocError> {
 }
 
 /// Returns the response to a request at the port with this number, 0 for services.
-fn answered<R: Host>(
+fn answered<R: Platform>(
     agent: &Agent<R>,
     number: u8,
-    request: Option<Request>,
+    request: Option<ServiceRequest>,
 ) -> Result<Response, AllocError> {
     let alloc = agent.alloc;
     let Some(request) = request else {
@@ -138,7 +138,7 @@ fn answered<R: Host>(
 
 /// Serves one connection, if there is memory for it. A caller that has gone isn't served: a node
 /// that has given up calls again, and its first call, if it were made late, might be out of order.
-fn serve_one<'a, R: Host>(
+fn serve_one<'a, R: Platform>(
     agent: &'a Agent<R>,
     port: &'a Port,
     number: u8,
@@ -171,7 +171,7 @@ fn serve_one<'a, R: Host>(
 }
 
 /// Serves the connections of a port, one after another, until the program is to end.
-pub fn serve<R: Host>(agent: &Agent<R>, number: u8) {
+pub fn serve<R: Platform>(agent: &Agent<R>, number: u8) {
     let port = agent.gateway.port_of(number);
     for _ in agent.rt.forever() {
         match port.take(agent.rt) {

@@ -2,7 +2,7 @@
 ghost use Rattle.std.specs.Prelude.{◌≡◌};
 ghost use Rattle.lra_gateway.specs.Showing.{goes_so, is_cancelled, is_closed, is_failed, is_recovering, is_to_end};
 
-use lra_id::LraStatus;
+use state_ids::LraStatus;
 
 /// Whether an LRA is on its way to its end.
 pub fn is_to_end(status: LraStatus) -> bool

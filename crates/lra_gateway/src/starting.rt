@@ -1,29 +1,29 @@
 // Beginning an LRA.
 
-use crate::agent::{Agent, Host, moment};
-use crate::asking::{Answer, Question, ask_node, ask_now};
+use crate::agent::{Agent, Platform, moment};
+use crate::args::Door;
+use crate::asking::{NodeAnswer, Question, ask_node, ask_now};
 use crate::exchange::Fail;
 use crate::gateway::Group;
-use crate::handing::{Errand, hand};
-use crate::names::{Lra, lra_of, name_in, url_of};
+use crate::handing::{Handover, hand};
+use crate::names::{NamedLra, lra_of, name_in, url_of};
 use crate::query::{said, time_in};
-use crate::reply::{LRA, Reply, failure, made, plain, refusal};
-use crate::words::Door;
+use crate::reply::{LRA, ServiceAnswer, failure, made, plain, refusal};
 use http::Method;
-use lra_id::LraId;
-use lra_narayana::{Repeat, id_in, text_of};
+use state_ids::LraId;
 use std::alloc::{AllocError, Global};
 use std::thread;
 use std::time::Duration;
+use wire_narayana::{Repeat, id_in, text_of};
 
 /// How long to wait before all nodes are asked again, in milliseconds.
 const PAUSE_MS: u64 = 100;
 
 /// The result of a begin.
 #[derive(Drop)]
-enum Begun {
+enum BeginOutcome {
     /// The answer for the service.
-    Told(Reply),
+    Told(ServiceAnswer),
     /// No LRA was begun, so another node may be asked.
     Not,
 }
@@ -49,13 +49,17 @@ fn begin(body: &str) -> Question {
 }
 
 /// Whether a node has no room for another LRA.
-fn is_full(answer: &Answer) -> bool {
+fn is_full(answer: &NodeAnswer) -> bool {
     let refused = answer.refused();
     refused.starts_with("E13") || refused.starts_with("E14")
 }
 
 /// Returns what a service is told about a begin.
-fn told_of<R: Host>(agent: &Agent<R>, group: &Group, answer: &Answer) -> Result<Reply, Fail> {
+fn told_of<R: Platform>(
+    agent: &Agent<R>,
+    group: &Group,
+    answer: &NodeAnswer,
+) -> Result<ServiceAnswer, Fail> {
     let alloc = agent.alloc;
     if answer.code != 201 {
         return Ok(refusal(alloc, answer)?);
@@ -68,37 +72,41 @@ fn told_of<R: Host>(agent: &Agent<R>, group: &Group, answer: &Answer) -> Result<
 }
 
 /// Begins an LRA at a node that this gateway asks itself.
-fn begin_at<R: Host>(
+fn begin_at<R: Platform>(
     agent: &Agent<R>,
     group: &Group,
     door: &Door,
     body: &str,
-) -> Result<Begun, Fail> {
+) -> Result<BeginOutcome, Fail> {
     match ask_now(agent, &door.peer, &begin(body)) {
-        Ok(answer) if answer.did_nothing() || is_full(&answer) => Ok(Begun::Not),
-        Ok(answer) => Ok(Begun::Told(told_of(agent, group, &answer)?)),
-        Err(Fail::Unsent) => Ok(Begun::Not),
+        Ok(answer) if answer.did_nothing() || is_full(&answer) => Ok(BeginOutcome::Not),
+        Ok(answer) => Ok(BeginOutcome::Told(told_of(agent, group, &answer)?)),
+        Err(Fail::Unsent) => Ok(BeginOutcome::Not),
         Err(fail) => Err(fail),
     }
 }
 
 /// Makes the gateway beside a node begin an LRA.
-fn begin_by<R: Host>(
+fn begin_by<R: Platform>(
     agent: &Agent<R>,
     group: &Group,
     door: &Door,
-    errand: &Errand,
-) -> Result<Begun, Fail> {
+    errand: &Handover,
+) -> Result<BeginOutcome, Fail> {
     match hand(agent, group, door, errand, Repeat::Never) {
-        Ok(reply) => Ok(Begun::Told(reply)),
-        Err(Fail::Unsent) => Ok(Begun::Not),
+        Ok(reply) => Ok(BeginOutcome::Told(reply)),
+        Err(Fail::Unsent) => Ok(BeginOutcome::Not),
         Err(fail) => Err(fail),
     }
 }
 
 /// Begins an LRA at one of the nodes that this gateway asks itself, starting with the one whose
 /// turn it is. The next node is asked only if the one before did nothing, so no LRA is begun twice.
-fn begin_here<R: Host>(agent: &Agent<R>, group: &Group, body: &str) -> Result<Begun, Fail> {
+fn begin_here<R: Platform>(
+    agent: &Agent<R>,
+    group: &Group,
+    body: &str,
+) -> Result<BeginOutcome, Fail> {
     let (first, count) = (group.next_turn(), group.doors.len());
     for turn in 0..count {
         let Some(door) = group.doors.get(first.wrapping_add(turn) % count) else {
@@ -107,31 +115,39 @@ fn begin_here<R: Host>(agent: &Agent<R>, group: &Group, body: &str) -> Result<Be
         if door.operate.is_none() {
             continue;
         }
-        if let Begun::Told(reply) = begin_at(agent, group, door, body)? {
-            return Ok(Begun::Told(reply));
+        if let BeginOutcome::Told(reply) = begin_at(agent, group, door, body)? {
+            return Ok(BeginOutcome::Told(reply));
         }
     }
-    Ok(Begun::Not)
+    Ok(BeginOutcome::Not)
 }
 
 /// Makes the gateway beside one of the other nodes begin an LRA.
-fn begin_there<R: Host>(agent: &Agent<R>, group: &Group, errand: &Errand) -> Result<Begun, Fail> {
+fn begin_there<R: Platform>(
+    agent: &Agent<R>,
+    group: &Group,
+    errand: &Handover,
+) -> Result<BeginOutcome, Fail> {
     if errand.handed_for.is_some() {
-        return Ok(Begun::Not);
+        return Ok(BeginOutcome::Not);
     }
     for door in group.doors.iter() {
         if door.operate.is_some() {
             continue;
         }
-        if let Begun::Told(reply) = begin_by(agent, group, door, errand)? {
-            return Ok(Begun::Told(reply));
+        if let BeginOutcome::Told(reply) = begin_by(agent, group, door, errand)? {
+            return Ok(BeginOutcome::Told(reply));
         }
     }
-    Ok(Begun::Not)
+    Ok(BeginOutcome::Not)
 }
 
 /// Begins an LRA in one of the groups, starting with the one whose turn it is.
-fn begin_in_turn<R: Host>(agent: &Agent<R>, errand: &Errand, body: &str) -> Result<Begun, Fail> {
+fn begin_in_turn<R: Platform>(
+    agent: &Agent<R>,
+    errand: &Handover,
+    body: &str,
+) -> Result<BeginOutcome, Fail> {
     let groups = &agent.gateway.groups;
     let (first, count) = (agent.gateway.next_turn(), groups.len());
     for turn in 0..count {
@@ -141,22 +157,26 @@ fn begin_in_turn<R: Host>(agent: &Agent<R>, errand: &Errand, body: &str) -> Resu
         if !errand.is_for(group) {
             continue;
         }
-        if let Begun::Told(reply) = begin_here(agent, group, body)? {
-            return Ok(Begun::Told(reply));
+        if let BeginOutcome::Told(reply) = begin_here(agent, group, body)? {
+            return Ok(BeginOutcome::Told(reply));
         }
-        if let Begun::Told(reply) = begin_there(agent, group, errand)? {
-            return Ok(Begun::Told(reply));
+        if let BeginOutcome::Told(reply) = begin_there(agent, group, errand)? {
+            return Ok(BeginOutcome::Told(reply));
         }
     }
-    Ok(Begun::Not)
+    Ok(BeginOutcome::Not)
 }
 
 /// Begins an LRA that has no parent, and tries again if no node did anything.
-fn begin_top<R: Host>(agent: &Agent<R>, errand: &Errand, limit: u64) -> Result<Reply, Fail> {
+fn begin_top<R: Platform>(
+    agent: &Agent<R>,
+    errand: &Handover,
+    limit: u64,
+) -> Result<ServiceAnswer, Fail> {
     let body = begin_body(agent.alloc, limit, None)?;
     let until = moment(agent.rt, agent.gateway.again);
     for _ in agent.rt.forever() {
-        if let Begun::Told(reply) = begin_in_turn(agent, errand, body.as_str())? {
+        if let BeginOutcome::Told(reply) = begin_in_turn(agent, errand, body.as_str())? {
             return Ok(reply);
         }
         if errand.handed_for.is_some() || agent.is_over(until) {
@@ -168,12 +188,12 @@ fn begin_top<R: Host>(agent: &Agent<R>, errand: &Errand, limit: u64) -> Result<R
 }
 
 /// Begins a nested LRA at its parent's home.
-fn begin_nested<R: Host>(
+fn begin_nested<R: Platform>(
     agent: &Agent<R>,
-    errand: &Errand,
-    parent: &Lra,
+    errand: &Handover,
+    parent: &NamedLra,
     limit: u64,
-) -> Result<Reply, Fail> {
+) -> Result<ServiceAnswer, Fail> {
     if parent.home.operate.is_none() {
         return hand(agent, parent.group, parent.home, errand, Repeat::Never);
     }
@@ -183,7 +203,7 @@ fn begin_nested<R: Host>(
 }
 
 /// Begins an LRA: `POST /lra-coordinator/start?ClientID=..&TimeLimit=MS&ParentLRA=ID`.
-pub fn start<R: Host>(agent: &Agent<R>, errand: &Errand) -> Result<Reply, Fail> {
+pub fn start<R: Platform>(agent: &Agent<R>, errand: &Handover) -> Result<ServiceAnswer, Fail> {
     let alloc = agent.alloc;
     let query = errand.query();
     let Some(limit) = time_in(said(query, "TimeLimit")) else {

@@ -1,10 +1,10 @@
 -- What the program's arguments ask for, other than a script.
 use Rattle.std.specs.Prelude.{◌≡◌, ◌≤◌, ℕ, Bool, true, false, List, [], ◌∷◌, ◌++◌, codes, vec_len}
 use Rattle.std.specs.Fmt.{decimal}
-use Rattle.lra_id.specs.declared.TheConstants.{MAX_NODES}
+use Rattle.state_ids.specs.declared.TheConstants.{MAX_NODES}
 use Rattle.lra_node.specs.declared.Job.{Job}
 use Rattle.lra_node.specs.declared.Job.TheVariants.{Server, Members}
-use Rattle.lra_script.specs.Asks.{IsNodeOf}
+use Rattle.script_lines.specs.Asks.{IsNodeOf}
 
 -- a server of so many nodes, of which the first listens at this port, with their journals in a folder
 abbrev pub server_words : (nodes port : ℕ) → List ℕ → List (List ℕ)

@@ -4,16 +4,15 @@
 
 mod member;
 
-ghost use Rattle.lra_id.specs.declared.TheConstants.{MAX_NODES};
+ghost use Rattle.state_ids.specs.declared.TheConstants.{MAX_NODES};
 ghost use Rattle.lra_node.specs.Arguments.{AskMember, AskServer, IsOldName, IsPossible};
 ghost use Rattle.std.specs.Prelude.{◌≤◌, ℕ, IfOk, List, MatchBool, MatchOption, map, string_bytes};
 
 use log::{Level, Log, Logged};
-use lra_http::{OverRead, OverWrite};
-use lra_id::MAX_NODES;
-use lra_script::{Ended, arguments, code_of, node_of, play};
-use lra_server::{Folder, Members, Stores, UnknownFiles, hold, serve, serve_members};
-use lra_threads::{ToLines, lines_of};
+use node_server::{Folder, LocalMembers, Stores, UnknownFiles, hold, serve, serve_members};
+use node_threads::{ToLines, lines_of};
+use script_lines::{Ended, arguments, code_of, node_of, play};
+use state_ids::MAX_NODES;
 use std::alloc::Global;
 use std::io::Read;
 use std::net::{Net, TcpListener, TcpStream};
@@ -22,6 +21,7 @@ use std::sync::Wait;
 use std::thread::Threads;
 use std::time::{Clock, Duration};
 use std::{env, io};
+use wire_http::{OverRead, OverWrite};
 
 const USAGE: &str = "usage: lra_node script N | serve N PORT DIR";
 

@@ -1,14 +1,14 @@
-// Members of a group: one node, or some, whose other nodes run in processes of their own.
+// LocalMembers of a group: one node, or some, whose other nodes run in processes of their own.
 
-ghost use Rattle.lra_id.specs.declared.TheConstants.{MAX_NODES};
-ghost use Rattle.lra_work.specs.Groups.{is_group_name};
+ghost use Rattle.state_ids.specs.declared.TheConstants.{MAX_NODES};
+ghost use Rattle.node_worker.specs.Groups.{is_group_name};
 ghost use Rattle.std.specs.Prelude.{◌≡◌, ◌≤◌, IfNone, IfOk, IfSome, IsFalse, IsSomeAnd, min, option_map, string_bytes, unwrap_or, vec_len};
 
-use lra_mailbox::Keep;
-use lra_server::Members;
-use lra_threads::{Build, Wants};
-use lra_words::{Asked, COMMIT, KIT, Unasked, VERSION, asked_by, is_version};
-use lra_work::GroupName;
+use node_agenda::Keep;
+use node_server::LocalMembers;
+use node_threads::{Build, Wants};
+use node_worker::GroupName;
+use program_args::{ArgsError, COMMIT, KIT, MemberArgs, VERSION, asked_by, is_version};
 use std::alloc::Global;
 
 const USAGE: &str =
@@ -20,7 +20,7 @@ const PATIENCE_MS: u64 = 1_000;
 /// The members that the words ask for, and the folder in which their journals lie.
 #[derive(Drop)]
 struct AskedMembers {
-    members: Members,
+    members: LocalMembers,
     folder: String,
 }
 
@@ -38,7 +38,7 @@ fn wants_of(copies: Option<u64>, patience: Option<u64>, is_strict: bool) -> Want
 
 /// Returns the members that are asked for, and the folder in which their journals lie; `None` if the
 /// group's name is no such name.
-fn members_from(asked: Asked, build: Build) -> Option<(Members, String)>
+fn members_from(asked: MemberArgs, build: Build) -> Option<(LocalMembers, String)>
     ensures nodes { IfSome result (λ made. (made.0.first ≡ asked.first) × (made.0.last ≡ asked.last)
         × (made.0.peers ≡ asked.peers) × (made.1 ≡ asked.folder)) }
     ensures choices { IfSome result (λ made. (made.0.listen ≡ asked.listen) × (made.0.operate ≡ asked.operate)
@@ -49,7 +49,7 @@ fn members_from(asked: Asked, build: Build) -> Option<(Members, String)>
         × (made.0.build ≡ build)) }
     ensures none { IfNone result (IsSomeAnd asked.group (λ name. IsFalse (is_group_name (string_bytes name)))) }
 {
-    let Asked {
+    let MemberArgs {
         first,
         last,
         folder,
@@ -74,7 +74,7 @@ fn members_from(asked: Asked, build: Build) -> Option<(Members, String)>
         }
         None => None,
     };
-    let members = Members {
+    let members = LocalMembers {
         first,
         last,
         peers,
@@ -91,7 +91,7 @@ fn members_from(asked: Asked, build: Build) -> Option<(Members, String)>
 }
 
 /// Returns what the words ask for.
-fn given_by(alloc: Global, words: &[String]) -> Result<AskedMembers, Unasked>
+fn given_by(alloc: Global, words: &[String]) -> Result<AskedMembers, ArgsError>
     ensures { IfOk result (λ given. (1 ≤ vec_len given.members.peers)
         × (vec_len given.members.peers ≤ MAX_NODES)) }
 {
@@ -100,10 +100,10 @@ fn given_by(alloc: Global, words: &[String]) -> Result<AskedMembers, Unasked>
         Err(fault) => return Err(fault),
     };
     let Ok(build) = Build::said(alloc, VERSION, COMMIT, KIT) else {
-        return Err(Unasked::NoMemory);
+        return Err(ArgsError::NoMemory);
     };
     let Some((members, folder)) = members_from(asked, build) else {
-        return Err(Unasked::OtherWords);
+        return Err(ArgsError::OtherWords);
     };
     Ok(AskedMembers { members, folder })
 }
@@ -111,7 +111,7 @@ fn given_by(alloc: Global, words: &[String]) -> Result<AskedMembers, Unasked>
 /// Returns the members that the words ask for, with the folder in which their journals lie. If there is
 /// nothing to run, it prints which build this is or the usage, and returns the exit status: 0 if the
 /// words ask for the version, 2 if they ask for nothing, 1 if memory ran out.
-pub fn members_of(rt: &HostRuntime, words: &[String]) -> Result<(Members, String), u8>
+pub fn members_of(rt: &HostRuntime, words: &[String]) -> Result<(LocalMembers, String), u8>
     ensures { IfOk result (λ made. (1 ≤ vec_len made.0.peers) × (vec_len made.0.peers ≤ MAX_NODES)) }
 {
     if is_version(words) {
@@ -120,8 +120,8 @@ pub fn members_of(rt: &HostRuntime, words: &[String]) -> Result<(Members, String
     }
     match given_by(rt.alloc(), words) {
         Ok(AskedMembers { members, folder }) => Ok((members, folder)),
-        Err(Unasked::NoMemory) => Err(1),
-        Err(Unasked::OtherWords) => {
+        Err(ArgsError::NoMemory) => Err(1),
+        Err(ArgsError::OtherWords) => {
             let _ = eprintln!(rt; "{}", USAGE);
             Err(2)
         }

@@ -1,16 +1,16 @@
 // The requests of clients and operators to nodes.
 
 use crate::play::{Play, nowhere};
-use crate::words;
-use lra_book::Call;
-use lra_callback::Kind;
-use lra_facts::{Command, Links};
-use lra_id::{Act, LraId, Outcome, Verdict};
-use lra_life::HOSTS;
-use lra_luck::{DueCall, Halt, Luck};
-use lra_mailbox::Wanted;
-use lra_run::Runs;
+use crate::texts;
+use node_agenda::OperatorWant;
+use sim_env::{DueCall, Halt, Luck};
+use sim_node::HOSTS;
+use sim_runs::Runs;
+use state_book::Call;
+use state_facts::{Command, Links};
+use state_ids::{Act, LraId, Outcome, Verdict};
 use std::alloc::Global;
+use wire_callbacks::Kind;
 
 fn member_by(luck: &mut Luck) -> u8 {
     match luck.below(4) {
@@ -182,15 +182,15 @@ impl<R: Runs> Play<R> {
     /// Lets operators want a command or a question, or give up what they wanted.
     pub fn ask_operator(&mut self, place: usize) -> Result<(), Halt> {
         if self.luck.is_one_in(3) {
-            self.want(place, Call::Survey(None), Wanted::Question);
+            self.want(place, Call::Survey(None), OperatorWant::Question);
             return Ok(());
         }
         let command = self.some_command(place)?;
-        self.want(place, Call::Command(command), Wanted::Command);
+        self.want(place, Call::Command(command), OperatorWant::Command);
         Ok(())
     }
 
-    fn want(&mut self, place: usize, call: Call, wanted: Wanted) {
+    fn want(&mut self, place: usize, call: Call, wanted: OperatorWant) {
         let now = self.now;
         if let Some(life) = self.life(place) {
             life.want(call, wanted, now);
@@ -200,9 +200,9 @@ impl<R: Runs> Play<R> {
     /// Lets a client send a node a command.
     pub fn ask_client(&mut self, place: usize) -> Result<(), Halt> {
         let command = self.some_command(place)?;
-        let (me, said) = (self.me(place)?, words::of_command(self.alloc, &command)?);
+        let (me, said) = (self.me(place)?, texts::of_command(self.alloc, &command)?);
         let caller = self.luck.place(3).saturating_add(1);
         let reply = self.call(place, caller, Call::Command(command))?;
-        self.tell(words::of_asked(self.alloc, me, &said, &reply)?)
+        self.tell(texts::of_asked(self.alloc, me, &said, &reply)?)
     }
 }

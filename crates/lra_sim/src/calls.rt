@@ -1,12 +1,12 @@
 // The calls of a node's threads, and the effects of each.
 
 use crate::play::{Play, nowhere};
-use lra_book::{Call, Reply};
-use lra_facts::Refusal;
-use lra_id::LraId;
-use lra_life::{Asked, named_in, stored, taken_by};
-use lra_luck::{Doubt, Halt};
-use lra_run::Runs;
+use sim_env::{Doubt, Halt};
+use sim_node::{CallSummary, named_in, stored, taken_by};
+use sim_runs::Runs;
+use state_book::{Call, Reply};
+use state_facts::Refusal;
+use state_ids::LraId;
 use std::alloc::Global;
 
 fn refused(alloc: Global, refusal: Refusal) -> Result<Halt, Halt> {
@@ -19,7 +19,7 @@ impl<R: Runs> Play<R> {
         place: usize,
         caller: usize,
         call: Call,
-        asked: &Asked,
+        asked: &CallSummary,
     ) -> Result<Option<Reply>, Refusal> {
         match self.nodes.get_mut(place) {
             Some(node) => node.make(caller, call, asked, self.now),
@@ -30,7 +30,7 @@ impl<R: Runs> Play<R> {
     /// Makes a call of a thread of a node. Returns no reply if the node isn't up, holds the call
     /// back, or stops.
     pub fn call(&mut self, place: usize, caller: usize, call: Call) -> Result<Option<Reply>, Halt> {
-        let asked = Asked::of(&call)?;
+        let asked = CallSummary::of(&call)?;
         match self.make(place, caller, call, &asked) {
             Ok(Some(reply)) => {
                 self.enter_reply(place, asked, &reply)?;
@@ -46,7 +46,7 @@ impl<R: Runs> Play<R> {
 
     /// Handles the refusal of a call: the journal failed, or the run is full. It may have no other
     /// cause.
-    fn refuse(&mut self, place: usize, asked: Asked, refusal: Refusal) -> Result<(), Halt> {
+    fn refuse(&mut self, place: usize, asked: CallSummary, refusal: Refusal) -> Result<(), Halt> {
         if refusal == Refusal::RunFull {
             return self.next_run(place);
         }
@@ -58,7 +58,7 @@ impl<R: Runs> Play<R> {
     }
 
     /// Returns what a call that was cut off would have stored.
-    fn doubt_of(&self, place: usize, asked: Asked) -> Result<Doubt, Halt> {
+    fn doubt_of(&self, place: usize, asked: CallSummary) -> Result<Doubt, Halt> {
         match self.nodes.get(place) {
             Some(node) => Ok(node.doubt_of(asked, self.now)),
             None => Err(nowhere()),
@@ -66,7 +66,7 @@ impl<R: Runs> Play<R> {
     }
 
     /// Records a call that was made and its reply.
-    fn enter_reply(&mut self, place: usize, asked: Asked, reply: &Reply) -> Result<(), Halt> {
+    fn enter_reply(&mut self, place: usize, asked: CallSummary, reply: &Reply) -> Result<(), Halt> {
         if let Some(taken) = taken_by(&asked, reply) {
             let front = self.front(place)?.join(&taken);
             return self.grow(place, front);
@@ -80,7 +80,7 @@ impl<R: Runs> Play<R> {
     }
 
     /// Checks that what a call stored was allowed to be stored.
-    fn see_entered(&self, place: usize, asked: &Asked, reply: &Reply) -> Result<(), Halt> {
+    fn see_entered(&self, place: usize, asked: &CallSummary, reply: &Reply) -> Result<(), Halt> {
         let Some(node) = self.nodes.get(place) else {
             return Err(nowhere());
         };

@@ -1,10 +1,10 @@
 // The checks after each step: whether a node shows and holds what its facts demand.
 
 use crate::play::{Play, nowhere};
-use lra_book::{Call, Reply};
-use lra_id::LraId;
-use lra_luck::Halt;
-use lra_run::Runs;
+use sim_env::Halt;
+use sim_runs::Runs;
+use state_book::{Call, Reply};
+use state_ids::LraId;
 
 impl<R: Runs> Play<R> {
     /// Checks that a node shows what its facts demand.

@@ -10,12 +10,12 @@ mod opening;
 mod play;
 mod pulls;
 mod steps;
+mod texts;
 mod threads;
-mod words;
 
 use crate::play::{Play, TOLD};
-use lra_luck::{Halt, Store};
-use lra_run::{Run, Runs};
+use sim_env::{Halt, SimStore};
+use sim_runs::{Runs, SimRun};
 use std::alloc::Global;
 use std::process::ExitCode;
 use std::rt::Env;
@@ -25,7 +25,7 @@ const USAGE: &str = "usage: lra_sim SEED SEEDS EVENTS [NODES [TOLD]]";
 
 /// What is to be simulated.
 #[derive(Clone, Copy)]
-struct Asked {
+struct SimArgs {
     seed: u64,
     seeds: u64,
     events: u64,
@@ -87,9 +87,15 @@ fn print_play<P: Print, R: Runs>(
 }
 
 /// Simulates one seed.
-fn played<P: Print>(rt: &P, alloc: Global, seed: u64, nodes: u8, asked: Asked) -> io::Result<bool> {
+fn played<P: Print>(
+    rt: &P,
+    alloc: Global,
+    seed: u64,
+    nodes: u8,
+    asked: SimArgs,
+) -> io::Result<bool> {
     let told = usize::try_from(asked.told).unwrap_or(TOLD).max(TOLD);
-    let Ok(mut play) = Play::<Run<Store>>::new(alloc, seed, nodes, told) else {
+    let Ok(mut play) = Play::<SimRun<SimStore>>::new(alloc, seed, nodes, told) else {
         println!(rt; "no memory")?;
         return Ok(false);
     };
@@ -110,7 +116,7 @@ fn nodes_of(asked: u64, seed: u64) -> u8 {
 }
 
 /// Reads the numbers of the command line.
-fn numbers<E: Env + Alloc>(rt: &E) -> Option<Asked> {
+fn numbers<E: Env + Alloc>(rt: &E) -> Option<SimArgs> {
     let mut given = Vec::new(rt.alloc());
     for word in env::args(rt).ok()?.skip(1) {
         given.push(word.parse::<u64>().ok()?).ok()?;
@@ -118,7 +124,7 @@ fn numbers<E: Env + Alloc>(rt: &E) -> Option<Asked> {
     asked_by(&given)
 }
 
-fn asked_by(given: &[u64]) -> Option<Asked> {
+fn asked_by(given: &[u64]) -> Option<SimArgs> {
     let (seed, seeds, events) = (*given.get(0)?, *given.get(1)?, *given.get(2)?);
     let (nodes, told) = (
         given.get(3).copied().unwrap_or(0),
@@ -127,7 +133,7 @@ fn asked_by(given: &[u64]) -> Option<Asked> {
     if given.len() > 5 || nodes > 8 {
         return None;
     }
-    Some(Asked {
+    Some(SimArgs {
         seed,
         seeds,
         events,

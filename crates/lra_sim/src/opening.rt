@@ -1,25 +1,25 @@
 // Starting and stopping nodes, and opening and closing their journals.
 
 use crate::play::{Play, nowhere};
-use crate::words;
-use lra_id::{Front, NodeId};
-use lra_luck::{Doubt, Fate, Halt, Remains};
-use lra_run::{Opening, Runs};
+use crate::texts;
+use sim_env::{DiskFaults, Doubt, Halt, Remains};
+use sim_runs::{JournalOpening, Runs};
+use state_ids::{Front, NodeId};
 
 /// How long nothing is stored after a journal was opened again, in milliseconds.
 const PAUSE_MS: u64 = 100;
 
 impl<R: Runs> Play<R> {
     /// Picks when the calls of the disk that is opened now fail.
-    fn fate(&mut self) -> Fate {
+    fn fate(&mut self) -> DiskFaults {
         if self.is_quiet {
-            Fate::good()
+            DiskFaults::good()
         } else {
-            Fate::by(&mut self.luck)
+            DiskFaults::by(&mut self.luck)
         }
     }
 
-    fn open_journal(&mut self, place: usize, copy: usize) -> Result<Opening<R>, Halt> {
+    fn open_journal(&mut self, place: usize, copy: usize) -> Result<JournalOpening<R>, Halt> {
         let fate = self.fate();
         match self.nodes.get(place) {
             Some(node) => node.open(copy, fate, &mut self.luck),
@@ -30,11 +30,11 @@ impl<R: Runs> Play<R> {
     /// Opens the journal of a node over a copy of its disk.
     fn open(&mut self, place: usize, copy: usize) -> Result<Option<R>, Halt> {
         match self.open_journal(place, copy)? {
-            Opening::Begun(run) => {
+            JournalOpening::Begun(run) => {
                 self.settle(place, copy, run.front())?;
                 Ok(Some(run))
             }
-            Opening::Failed(files) => {
+            JournalOpening::Failed(files) => {
                 self.leave(place, copy, &files)?;
                 Ok(None)
             }
@@ -55,7 +55,7 @@ impl<R: Runs> Play<R> {
         if let Some(node) = self.nodes.get_mut(place) {
             node.leave(copy, files, loses_power)?;
         }
-        self.tell(words::of_text(self.alloc, "its disk fails before it is open")?)
+        self.tell(texts::of_text(self.alloc, "its disk fails before it is open")?)
     }
 
     /// Returns the place of the newest copy of a node's disk.
@@ -69,7 +69,7 @@ impl<R: Runs> Play<R> {
     /// Starts a node over a copy of its disk.
     pub fn start(&mut self, place: usize, copy: usize) -> Result<(), Halt> {
         let (is_older, me) = (copy < self.newest(place), self.me(place)?);
-        self.tell(words::of_start(self.alloc, me, is_older)?)?;
+        self.tell(texts::of_start(self.alloc, me, is_older)?)?;
         let Some(run) = self.open(place, copy)? else {
             return Ok(());
         };
@@ -147,7 +147,7 @@ impl<R: Runs> Play<R> {
     /// Opens the closed journal of a node again. Nothing is stored for a while.
     pub fn reopen(&mut self, place: usize) -> Result<(), Halt> {
         let me = self.me(place)?;
-        self.tell(words::of_reopening(self.alloc, me)?)?;
+        self.tell(texts::of_reopening(self.alloc, me)?)?;
         let Some(run) = self.open(place, self.newest(place))? else {
             return Ok(());
         };
@@ -170,7 +170,7 @@ impl<R: Runs> Play<R> {
     /// Stops a node, in the middle of a call or between two.
     pub fn stop(&mut self, place: usize, doubt: Doubt) -> Result<(), Halt> {
         let (me, loses_power) = (self.me(place)?, self.luck.is_one_in(2));
-        self.tell(words::of_stop(self.alloc, me, loses_power)?)?;
+        self.tell(texts::of_stop(self.alloc, me, loses_power)?)?;
         self.shut(place, loses_power, doubt)?;
         self.end_life(place);
         Ok(())
@@ -190,12 +190,12 @@ impl<R: Runs> Play<R> {
             return self.stop(place, doubt);
         }
         let me = self.me(place)?;
-        self.tell(words::of_failure(self.alloc, me)?)?;
+        self.tell(texts::of_failure(self.alloc, me)?)?;
         let loses_written = self.luck.is_one_in(2);
         self.shut(place, loses_written, doubt)
     }
 
-    fn open_next(&mut self, place: usize) -> Result<Option<Opening<R>>, Halt> {
+    fn open_next(&mut self, place: usize) -> Result<Option<JournalOpening<R>>, Halt> {
         match self.nodes.get_mut(place) {
             Some(node) => node.open_next(),
             None => Err(nowhere()),
@@ -205,8 +205,8 @@ impl<R: Runs> Play<R> {
     /// Ends a run of a node and begins the next, with the book over the same connection.
     pub fn next_run(&mut self, place: usize) -> Result<(), Halt> {
         match self.open_next(place)? {
-            Some(Opening::Begun(run)) => self.go_on_with(place, run),
-            Some(Opening::Failed(files)) => self.fail_between(place, &files),
+            Some(JournalOpening::Begun(run)) => self.go_on_with(place, run),
+            Some(JournalOpening::Failed(files)) => self.fail_between(place, &files),
             None => Ok(()),
         }
     }
@@ -232,6 +232,6 @@ impl<R: Runs> Play<R> {
         if self.luck.is_one_in(2) {
             self.end_life(place);
         }
-        self.tell(words::of_text(self.alloc, "its disk fails between two runs")?)
+        self.tell(texts::of_text(self.alloc, "its disk fails between two runs")?)
     }
 }

@@ -1,11 +1,11 @@
 // One to eight nodes in one thread, under a clock, a network, disks and participants that a seed decides.
 
-use lra_facts::Body;
-use lra_id::{Front, LraId, MAX_NODES, NodeId};
-use lra_life::{HOSTS, Life, Node};
-use lra_luck::{Halt, History, Luck, Manner, Pull};
-use lra_mailbox::Keep;
-use lra_run::Runs;
+use node_agenda::Keep;
+use sim_env::{Halt, History, Luck, Manner, Pull};
+use sim_node::{HOSTS, Life, SimNode};
+use sim_runs::Runs;
+use state_facts::Body;
+use state_ids::{Front, LraId, MAX_NODES, NodeId};
 use std::alloc::Global;
 use std::collections::VecDeque;
 
@@ -19,7 +19,7 @@ pub struct Play<R: Runs> {
     pub luck: Luck,
     pub now: u64,
     pub history: History,
-    pub nodes: Vec<Node<R>>,
+    pub nodes: Vec<SimNode<R>>,
     pub pulls: Vec<Pull>,
     /// The pairs of nodes between which there is no network, by their places.
     pub cuts: Vec<Cut>,
@@ -70,14 +70,14 @@ fn new_node<R: Runs>(
     luck: &mut Luck,
     number: u8,
     nodes: u8,
-) -> Result<Node<R>, Halt> {
+) -> Result<SimNode<R>, Halt> {
     let ended = time_by(luck);
     let failed = time_by(luck);
     let skew = luck.below(20_000);
-    Node::new(alloc, number, nodes, Keep { ended, failed }, skew)
+    SimNode::new(alloc, number, nodes, Keep { ended, failed }, skew)
 }
 
-fn new_nodes<R: Runs>(alloc: Global, luck: &mut Luck, nodes: u8) -> Result<Vec<Node<R>>, Halt> {
+fn new_nodes<R: Runs>(alloc: Global, luck: &mut Luck, nodes: u8) -> Result<Vec<SimNode<R>>, Halt> {
     let mut all = Vec::new(alloc);
     for number in 1..=nodes {
         all.push(new_node(alloc, luck, number, nodes)?)?;

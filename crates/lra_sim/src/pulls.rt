@@ -1,15 +1,15 @@
-// Pulls between nodes. The rule by which a pull waits is that of lra_server/src/run/holding.rt.
+// Pulls between nodes. The rule by which a pull waits is that of node_server/src/run/holding.rt.
 
 use crate::play::{Play, nowhere};
-use lra_book::{Call, Reply};
-use lra_delta::{Delta, encode};
-use lra_heard::{Telling, ask_for};
-use lra_http::{Bytes, OverRead, OverWrite};
-use lra_id::{Front, MAX_NODES, NodeId};
-use lra_luck::{Halt, Pull, Stage};
-use lra_peer::{front_of_pull, pull_body};
-use lra_run::Runs;
+use node_inbox::{Telling, ask_for};
+use sim_env::{Halt, Pull, PullStage};
+use sim_runs::Runs;
+use state_book::{Call, Reply};
+use state_ids::{Front, MAX_NODES, NodeId};
 use std::alloc::Global;
+use wire_frames::{Delta, encode};
+use wire_http::{Bytes, OverRead, OverWrite};
+use wire_pulls::{front_of_pull, pull_body};
 
 /// The pass of the worker that serves pulls.
 const SERVES: usize = 4;
@@ -75,7 +75,7 @@ impl<R: Runs> Play<R> {
             asker,
             teller,
             front,
-            stage: Stage::Asked,
+            stage: PullStage::Asked,
         })?;
         Ok(())
     }
@@ -95,8 +95,8 @@ impl<R: Runs> Play<R> {
             return Ok(());
         }
         match stage {
-            Stage::Asked => self.serve(asker, teller, front),
-            Stage::Answered(bytes) => self.hear_answer(asker, teller, front, bytes),
+            PullStage::Asked => self.serve(asker, teller, front),
+            PullStage::Answered(bytes) => self.hear_answer(asker, teller, front, bytes),
         }
     }
 
@@ -121,7 +121,7 @@ impl<R: Runs> Play<R> {
                 asker,
                 teller,
                 front,
-                stage: Stage::Asked,
+                stage: PullStage::Asked,
             })?;
             return Ok(());
         }
@@ -168,7 +168,7 @@ impl<R: Runs> Play<R> {
             asker,
             teller,
             front,
-            stage: Stage::Answered(bytes),
+            stage: PullStage::Answered(bytes),
         })?;
         Ok(())
     }

@@ -1,10 +1,10 @@
 // The choice of the next step, and the end of a simulation: quiet, and one round.
 
 use crate::play::{Cut, Play, good_hosts};
-use lra_id::{LraStatus, NodeId};
-use lra_life::{HOSTS, Node};
-use lra_luck::{Doubt, Halt, Manner};
-use lra_run::Runs;
+use sim_env::{Doubt, Halt, Manner};
+use sim_node::{HOSTS, SimNode};
+use sim_runs::Runs;
+use state_ids::{LraStatus, NodeId};
 
 /// The number of rounds of the quiet at the end, and the length of each in milliseconds.
 const ROUNDS: u64 = 240;
@@ -23,7 +23,7 @@ fn is_ending(status: LraStatus) -> bool {
 }
 
 /// Whether a node shows that an LRA is ending.
-fn is_any_ending<R: Runs>(node: &Node<R>) -> bool {
+fn is_any_ending<R: Runs>(node: &SimNode<R>) -> bool {
     for shown in node.known.shown() {
         if is_ending(shown.status) {
             return true;
@@ -33,7 +33,7 @@ fn is_any_ending<R: Runs>(node: &Node<R>) -> bool {
 }
 
 /// Whether a node has nothing left to do and accepts commands.
-fn is_idle<R: Runs>(node: &Node<R>) -> Result<bool, Halt> {
+fn is_idle<R: Runs>(node: &SimNode<R>) -> Result<bool, Halt> {
     Ok(node.is_open() && node.known.dues()?.is_empty() && !is_any_ending(node))
 }
 

@@ -1,20 +1,20 @@
 // The threads of a node, each of which does a step: the writer thread, and the caller threads.
 // `do_task` and what it calls do the same as `apply_loop.rt` and `sweeping.rt` of
-// lra_server/src/run.
+// node_server/src/run.
 
 use crate::play::{Play, nowhere};
-use crate::words;
-use lra_book::{Call, Reply};
-use lra_callback::{Duties, NetCaller};
-use lra_heard::{Letter, Telling, Unheard, call_for};
-use lra_http::{OverRead, OverWrite};
-use lra_id::{LraId, NodeId};
-use lra_life::{due_call, host_of, pull_of_all};
-use lra_luck::{DueCall, Halt, Manner};
-use lra_mailbox::{Chore, Ripe, Task};
-use lra_run::Runs;
-use lra_turns::{Came, Due};
+use crate::texts;
+use node_agenda::{Chore, Ripe, Task};
+use node_inbox::{Letter, Telling, Unheard, call_for};
+use node_schedule::{CallFailure, StartedCall};
+use sim_env::{DueCall, Halt, Manner};
+use sim_node::{due_call, host_of, pull_of_all};
+use sim_runs::Runs;
+use state_book::{Call, Reply};
+use state_ids::{LraId, NodeId};
 use std::alloc::Global;
+use wire_callbacks::{Duties, NetCaller};
+use wire_http::{OverRead, OverWrite};
 
 /// The most calls to a host at a time.
 const SHARE: usize = 2;
@@ -45,17 +45,21 @@ fn too_many(alloc: Global) -> Result<Halt, Halt> {
 }
 
 /// Returns the result of a call to which these bytes are the response.
-fn called(alloc: Global, due: Due, bytes: &[u8]) -> Result<Letter, Unheard> {
+fn called(alloc: Global, due: StartedCall, bytes: &[u8]) -> Result<Letter, Unheard> {
     let mut caller = NetCaller::new(OverRead::new(bytes), OverWrite::new(Vec::new(alloc)));
     call_for(alloc, &mut caller, due)
 }
 
 /// Returns the result of a call to a host that answers in this manner.
-fn heard_of(alloc: Global, manner: Manner, due: Due) -> Result<Result<Letter, Unheard>, Halt> {
+fn heard_of(
+    alloc: Global,
+    manner: Manner,
+    due: StartedCall,
+) -> Result<Result<Letter, Unheard>, Halt> {
     if manner == Manner::Hangs {
         return Ok(Err(Unheard {
             due,
-            came: Came::NoConnection,
+            came: CallFailure::NoConnection,
         }));
     }
     let bytes = manner.answer(alloc, due.duty().kind, due.duty().act)?;
@@ -157,7 +161,7 @@ impl<R: Runs> Play<R> {
             return Ok(());
         };
         let reply = self.call(place, ENTERS, call)?;
-        self.tell(words::of_errand(self.alloc, &reply)?)
+        self.tell(texts::of_errand(self.alloc, &reply)?)
     }
 
     fn enter_letter(&mut self, place: usize, letter: Letter) -> Result<(), Halt> {
@@ -166,7 +170,7 @@ impl<R: Runs> Play<R> {
         };
         let (who, heard) = (due_call(letter.duty()), letter.heard().name());
         let reply = self.call(place, ENTERS, Call::Command(command))?;
-        self.tell(words::of_entered(self.alloc, &who, heard, &reply)?)?;
+        self.tell(texts::of_entered(self.alloc, &who, heard, &reply)?)?;
         let (is_entered, now) = (reply.is_some(), self.now);
         if let Some(life) = self.life(place) {
             life.end_letter(letter, &who, is_entered, now);
@@ -176,7 +180,7 @@ impl<R: Runs> Play<R> {
 
     fn take(&mut self, place: usize, telling: Telling) -> Result<(), Halt> {
         let (me, front, from) = (self.me(place)?, telling.front(), telling.from());
-        self.tell(words::of_taking(self.alloc, me, from, &front)?)?;
+        self.tell(texts::of_taking(self.alloc, me, from, &front)?)?;
         let reply = self.call(place, ENTERS, Call::Take(telling.into_delta()))?;
         if reply.is_some() && !is_took(&reply) {
             return Err(untaken(self.alloc, me, from)?);
@@ -232,7 +236,7 @@ impl<R: Runs> Play<R> {
         if let Some(life) = self.life(place) {
             life.tick();
         }
-        self.tell(words::of_expiry(self.alloc, id)?)
+        self.tell(texts::of_expiry(self.alloc, id)?)
     }
 
     /// Checks that no LRA of a node is overdue.
@@ -262,7 +266,7 @@ impl<R: Runs> Play<R> {
     fn purge(&mut self, place: usize, ripe: Ripe) -> Result<(), Halt> {
         let (root, seen) = (ripe.root(), ripe.seen());
         let reply = self.call(place, ENTERS, Call::Sweep { root, seen })?;
-        self.tell(words::of_sweep(self.alloc, root, seen, &reply)?)?;
+        self.tell(texts::of_sweep(self.alloc, root, seen, &reply)?)?;
         let now = self.now;
         if let (Some(reply), Some(life)) = (&reply, self.life(place)) {
             life.end_sweep(root, reply, now);
@@ -288,7 +292,7 @@ impl<R: Runs> Play<R> {
 
     /// Checks that a call that begins is on the newest list, and that its host has room for it.
     fn see_call(&mut self, who: &DueCall, is_listed: bool, is_full: bool) -> Result<(), Halt> {
-        self.tell(words::of_call(self.alloc, who)?)?;
+        self.tell(texts::of_call(self.alloc, who)?)?;
         if is_full {
             return Err(too_many(self.alloc)?);
         }
@@ -313,7 +317,7 @@ impl<R: Runs> Play<R> {
         Some((host, now.saturating_sub(began)))
     }
 
-    fn land(&mut self, place: usize, chosen: usize) -> Option<Due> {
+    fn land(&mut self, place: usize, chosen: usize) -> Option<StartedCall> {
         self.life(place)?.end_call(chosen)
     }
 
@@ -343,12 +347,18 @@ impl<R: Runs> Play<R> {
         self.hosts.get(host).copied().unwrap_or(Manner::Well)
     }
 
-    fn hear(&mut self, place: usize, manner: Manner, due: Due, time: u64) -> Result<(), Halt> {
+    fn hear(
+        &mut self,
+        place: usize,
+        manner: Manner,
+        due: StartedCall,
+        time: u64,
+    ) -> Result<(), Halt> {
         let (who, now) = (due_call(due.duty()), self.now);
         let came = heard_of(self.alloc, manner, due)?;
         if let Some(life) = self.life(place) {
             life.hear(time, came, now);
         }
-        self.tell(words::of_answer(self.alloc, &who, manner)?)
+        self.tell(texts::of_answer(self.alloc, &who, manner)?)
     }
 }

@@ -1,12 +1,12 @@
 // One proved call of each public function with a premise that no program meets. It shows that the
 // premise can be met.
-use lra_delta::laws::since_by_scan;
-use lra_facts::{Body, Fact, Links, plain};
-use lra_forest::Forest;
-use lra_id::{Act, LraId, LraStatus, MemberStatus, NodeId, Verdict};
-use lra_replica::Replica;
+use state_facts::{Body, Fact, Links, plain};
+use state_forest::Forest;
+use state_ids::{Act, LraId, LraStatus, MemberStatus, NodeId, Verdict};
+use state_replica::Replica;
 use std::alloc::Global;
 use std::test::Fail;
+use wire_frames::laws::since_by_scan;
 
 /// The facts of an LRA that is cancelled, with one participant.
 fn cancelled(alloc: Global, node: NodeId, id: LraId) -> Result<Vec<Fact>, Fail> {

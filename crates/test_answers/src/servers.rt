@@ -1,11 +1,11 @@
 // Answers of participants as servers write them, according to the servers' public documents: to a
 // call to complete, with an empty body if possible.
 use http::Method;
-use lra_callback::{Answer, Heard, Kind, NetCaller, hear};
-use lra_http::{Bytes, CallRequest, Fields, OverRead, OverWrite, Text};
-use lra_id::{Act, Outcome};
+use state_ids::{Act, Outcome};
 use std::alloc::Global;
 use std::test::Fail;
+use wire_callbacks::{Answer, Heard, Kind, NetCaller, hear};
+use wire_http::{Bytes, CallRequest, Fields, OverRead, OverWrite, Text};
 
 const DONE: Heard = Heard::Outcome(Outcome::Done);
 

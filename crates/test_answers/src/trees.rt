@@ -1,6 +1,6 @@
 // The tree of a root.
-use lra_id::{LraId, NodeId};
-use lra_replica::Replica;
+use state_ids::{LraId, NodeId};
+use state_replica::Replica;
 use std::alloc::Global;
 use std::test::Fail;
 

@@ -2,11 +2,11 @@
 // stop.
 ghost use Rattle.std.specs.Prelude.{◌≡◌, [], None, Some, IfOk};
 
-use lra_book::{Book, BookClerk, Call, Clerk, Pass, Receipt, Reply};
-use lra_facts::Refusal;
-use lra_id::NodeId;
 use sqlite::{Alter, Connection, FileStore, Options};
 use sqlite_disk::{Files, Fuse, Memory};
+use state_book::{Book, BookClerk, Call, Clerk, Pass, Receipt, Reply};
+use state_facts::Refusal;
+use state_ids::NodeId;
 use std::alloc::Global;
 use std::test::Fail;
 

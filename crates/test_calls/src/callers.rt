@@ -1,11 +1,11 @@
 // A call by the bound of a caller, and a pull, over connections in memory.
 use http::Method;
-use lra_callback::{Answer, Caller, NetCaller, NoMemory};
-use lra_http::{Bytes, CallRequest, Fault, Fields, OverRead, OverWrite, Text};
-use lra_id::Front;
-use lra_peer::{PullError, pull};
+use state_ids::Front;
 use std::alloc::Global;
 use std::test::Fail;
+use wire_callbacks::{Answer, Caller, NetCaller, NoMemory};
+use wire_http::{Bytes, CallRequest, Fault, Fields, OverRead, OverWrite, Text};
+use wire_pulls::{PullError, pull};
 
 /// A call to complete.
 fn completion(alloc: Global) -> Result<CallRequest, Fail> {

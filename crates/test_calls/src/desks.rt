@@ -3,12 +3,12 @@ ghost use Rattle.std.specs.Prelude.{◌≡◌, [], Some, IfOk, IsTrue};
 ghost use Rattle.sqlite.specs.Held.{state};
 ghost use Rattle.sqlite.specs.State.{HasCleanDisk};
 ghost use Rattle.sqlite.specs.Steps.{over_memory};
-ghost use Rattle.lra_journal.specs.Keeping.{IsOwn};
-ghost use Rattle.lra_journal.specs.Tables.{IsJournal};
+ghost use Rattle.state_journal.specs.Keeping.{IsOwn};
+ghost use Rattle.state_journal.specs.Tables.{IsJournal};
 
 use crate::books::begun;
-use lra_book::{Book, Call, Desk, DeskPass, Run};
 use sqlite::{Alter, Connection, MemStore};
+use state_book::{Book, Call, Desk, DeskPass, Run};
 use std::alloc::Global;
 use std::marker::Brand;
 use std::sync::Wait;

@@ -1,11 +1,11 @@
 // One request that a book's clerk serves, from memory to memory.
 use crate::books::clerk;
-use lra_api::{Paths, ServeError, serve_one};
-use lra_book::Clerk;
-use lra_http::{OverRead, OverWrite};
 use sqlite::Connection;
+use state_book::Clerk;
 use std::alloc::Global;
 use std::test::Fail;
+use wire_api::{Paths, ServeError, serve_one};
+use wire_http::{OverRead, OverWrite};
 
 /// Lets a clerk serve one request.
 fn served<C: Clerk>(alloc: Global, paths: &Paths, clerk: &mut C) -> Result<(), ServeError> {

@@ -1,8 +1,8 @@
 // Runs that end midway.
-use lra_http::{OverRead, OverWrite};
-use lra_script::{ScriptFault, script};
+use script_lines::{ScriptFault, script};
 use std::io;
 use std::io::{Read, Write};
+use wire_http::{OverRead, OverWrite};
 
 /// Returns its bytes one at a time, each line after this many interruptions, fails once at the cut,
 /// and then goes on.

@@ -1,4 +1,4 @@
-//! Tests of scripts by the public calls of `lra_script`. They are in a crate of their own because a
+//! Tests of scripts by the public calls of `script_lines`. They are in a crate of their own because a
 //! crate that has tests is proved twice.
 #![tactic(auto)]
 

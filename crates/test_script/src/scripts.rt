@@ -1,10 +1,10 @@
 // What no clause says: the texts that outside examples give, and runs that end midway.
 ghost use Rattle.std.specs.Prelude.{◌≤◌};
 
-use lra_http::{OverRead, OverWrite};
-use lra_script::{Ended, ScriptFault, asked_nodes, script};
+use script_lines::{Ended, ScriptFault, asked_nodes, script};
 use std::alloc::{AllocError, Global};
 use std::test::Fail;
+use wire_http::{OverRead, OverWrite};
 
 /// Runs a script of 1 to 8 nodes over memory.
 pub(crate) fn run(alloc: Global, nodes: u8, input: &[u8]) -> (Result<(), ScriptFault>, Vec<u8>)
@@ -195,7 +195,7 @@ fn words_of(alloc: Global, text: &str) -> Result<Vec<String>, Fail> {
 fn ended(alloc: Global, words: &[String], input: &[u8]) -> (Ended, Vec<u8>) {
     let mut reader = OverRead::new(input);
     let mut writer = OverWrite::new(Vec::new(alloc));
-    let ended = lra_script::run(alloc, words, &mut reader, &mut writer);
+    let ended = script_lines::run(alloc, words, &mut reader, &mut writer);
     (ended, writer.into_inner())
 }
 

@@ -1,7 +1,7 @@
 // What tests of running nodes need: journals in memory, an input that ends when a test says so, and
 // requests over sockets.
 
-use lra_server::{Stores, Unopened};
+use node_server::{Stores, Unopened};
 use sqlite::{Connection, MemStore};
 use std::alloc::Global;
 use std::io::{ErrorKind, Read, Write};

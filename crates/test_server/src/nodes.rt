@@ -5,10 +5,10 @@ use crate::loopback::{InMemory, Until, address, answers, comes_to, needs, stoppe
 use crate::{halves, hanging};
 use log::sink::Console;
 use log::{Level, Log, Logged};
-use lra_mailbox::Keep;
-use lra_server::{Members, serve, serve_members};
-use lra_sockets::Peer;
-use lra_threads::{Build, Wants};
+use node_agenda::Keep;
+use node_server::{LocalMembers, serve, serve_members};
+use node_sockets::Peer;
+use node_threads::{Build, Wants};
 use std::alloc::Global;
 use std::io::Read;
 use std::net::{Net, TcpListener, TcpStream};
@@ -153,7 +153,7 @@ fn peer(alloc: Global, port: u16) -> Option<Peer> {
 }
 
 /// Makes both nodes of the group, in this process. They purge what has ended at once.
-fn group(alloc: Global) -> Option<Members>
+fn group(alloc: Global) -> Option<LocalMembers>
     ensures { IfSome result (λ members. (1 ≤ vec_len members.peers) × (vec_len members.peers ≤ 8)) }
 {
     let mut peers = Vec::new(alloc);
@@ -165,7 +165,7 @@ fn group(alloc: Global) -> Option<Members>
     if peers.is_empty() || peers.len() > 8 {
         return None;
     }
-    Some(Members {
+    Some(LocalMembers {
         first: 1,
         last: 2,
         peers,

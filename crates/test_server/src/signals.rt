@@ -1,7 +1,7 @@
 // If a run has several causes to end, the weightiest one stands, whatever their order.
 
 use crate::loopback::needs;
-use lra_sockets::{Signal, StopReason};
+use node_sockets::{Signal, StopReason};
 use std::sync::Wait;
 use std::test::Fail;
 

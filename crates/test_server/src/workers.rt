@@ -1,12 +1,10 @@
 // Two workers at one desk, each held before its first call until the other has arrived there.
 ghost use Rattle.std.specs.Prelude.{◌≡◌, [], ⊤, Some, false};
 
-use lra_api::Paths;
-use lra_book::{Book, Desk, DeskClerk, DeskPass, Reply, Run};
-use lra_http::{OverRead, OverWrite};
-use lra_id::{LraStatus, NodeId};
-use lra_work::{Addressee, Arrivals, Connection, Gate, work};
+use node_worker::{Addressee, Arrivals, Connection, Gate, work};
 use sqlite::{Alter, Connection as Database};
+use state_book::{Book, Desk, DeskClerk, DeskPass, Reply, Run};
+use state_ids::{LraStatus, NodeId};
 use std::alloc::Global;
 use std::marker::Brand;
 use std::sync::Wait;
@@ -16,6 +14,8 @@ use std::test::Fail;
 use std::thread;
 use std::thread::{Threads, join};
 use std::time::{Clock, Duration};
+use wire_api::Paths;
+use wire_http::{OverRead, OverWrite};
 
 /// Requests that arrive one after another.
 #[derive(Drop)]

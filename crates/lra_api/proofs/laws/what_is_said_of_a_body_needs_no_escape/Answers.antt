@@ -1,5 +1,0 @@
-use Rattle.lra_api.proofs.PlainTexts.{plain_why}
-use Rattle.lra_api.proofs.laws.what_is_said_of_a_body_needs_no_escape.Goals as goal
-
-pub returns : goal.returns
-returns c = plain_why

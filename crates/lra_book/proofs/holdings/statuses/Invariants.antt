@@ -1,9 +1,0 @@
-use Rattle.std.proofs.Common.{◌≡◌}
-use Rattle.lra_history.specs.Next.{member_shown_on}
-use Rattle.lra_replica.specs.Replicas.{view_of}
-use Rattle.lra_book.specs.Holdings.{statuses_of}
-use Rattle.lra_book.proofs.holdings.statuses.Given as goal
-
--- the statuses that were pushed are those of the numbers so far
-abbrev pub invariant-loop-place : goal.invariant-loop-place
-invariant-loop-place l = l.list.items ≡ statuses_of (member_shown_on (view_of l.replica) l.id) l.place

@@ -1,5 +1,0 @@
-use Rattle.lra_book.proofs.FoundBehind.{found_behind}
-use Rattle.lra_book.proofs.laws.a_start_finds_the_records_before_or_after.Goals as goal
-
-pub returns : goal.returns
-returns g c old asked now left db found is ruled started = found_behind g.S.Store g.met.S.Store.settled old asked now left db found is ruled started

@@ -1,8 +1,0 @@
-use Rattle.lra_callback.proofs.Unheard.{none_heard, none_heard_left}
-use Rattle.lra_callback.proofs.laws.no_response_is_heard_again.Goals as goal
-
-pub returns-clause-given : goal.returns-clause-given
-returns-clause-given c = none_heard
-
-pub returns-clause-left : goal.returns-clause-left
-returns-clause-left c = none_heard_left

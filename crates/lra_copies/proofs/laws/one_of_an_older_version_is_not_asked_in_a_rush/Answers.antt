@@ -1,5 +1,0 @@
-use Rattle.lra_copies.proofs.Rushing.{in_a_row}
-use Rattle.lra_copies.proofs.laws.one_of_an_older_version_is_not_asked_in_a_rush.Goals as goal
-
-pub returns : goal.returns
-returns c = in_a_row

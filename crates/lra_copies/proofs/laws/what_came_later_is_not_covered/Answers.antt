@@ -1,5 +1,0 @@
-use Rattle.lra_copies.proofs.Stored.{came_later}
-use Rattle.lra_copies.proofs.laws.what_came_later_is_not_covered.Goals as goal
-
-pub returns : goal.returns
-returns c = came_later

@@ -1,9 +1,0 @@
-use Rattle.lra_copies.proofs.Copied.{always}
-use Rattle.lra_copies.proofs.Telling.{tells}
-use Rattle.lra_copies.proofs.laws.what_is_covered_was_copied.Goals as goal
-
-pub returns-clause-covered : goal.returns-clause-covered
-returns-clause-covered c node steps = (always node steps).3.copied
-
-pub returns-clause-told : goal.returns-clause-told
-returns-clause-told c = tells

@@ -1,8 +1,0 @@
-use Rattle.lra_delta.proofs.HaveEncodings.{is_delta}
-use Rattle.lra_delta.proofs.delta.Delta.write.Goals as goal
-
-pub returns-then-out-clause-frame : goal.returns-then-out-clause-frame
-returns-then-out-clause-frame g c = is_delta c.args.self.now c.put_frame.ensures.typed
-
-pub returns-clause-frame : goal.returns-clause-frame
-returns-clause-frame g c = is_delta c.args.self.now c.put_frame.ensures.typed

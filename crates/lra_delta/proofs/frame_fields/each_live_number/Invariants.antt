@@ -1,9 +1,0 @@
-use Rattle.std.proofs.Common.{◌-◌, ℕ}
-use Rattle.std.specs.Int.{w64}
-use Rattle.lra_delta.specs.FrameFields.{number_at}
-use Rattle.lra_delta.specs.Rules.{is_live_number}
-use Rattle.lra_delta.proofs.Loop.{SoFar}
-use Rattle.lra_delta.proofs.frame_fields.each_live_number.Given as goal
-
-abbrev pub invariant-numbers : goal.invariant-numbers
-invariant-numbers g l = let seen = g.I.Input.seen in SoFar (λ last. number_at w64 (is_live_number l.top last)) (λ (last n : ℕ). n) l.count 0 (seen l.fn.input) l.list.items (l.count - l.counter) l.last (seen l.input)

@@ -1,8 +1,0 @@
-use Rattle.std.proofs.Common.{ℕ, List}
-use Rattle.std.specs.Int.{w64}
-use Rattle.lra_delta.specs.FrameFields.{whole_at}
-use Rattle.lra_delta.proofs.Loop.{reads_length}
-use Rattle.lra_delta.proofs.record_fields.many_of.Goals as goal
-
-pub returns-clause-count : goal.returns-clause-count
-returns-clause-count g c = reads_length (λ (s : ℕ). whole_at w64) (λ (s x : ℕ). s) c.args.count 0 (g.I.Input.seen c.args.input.now) (g.I.Input.seen c.each_number.new.input) (λ (x : List ℕ). x) c.each_number.result c.each_number.ensures.gives

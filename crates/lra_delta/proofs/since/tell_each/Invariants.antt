@@ -1,7 +1,0 @@
-use Rattle.std.proofs.Common.{take}
-use Rattle.lra_delta.specs.Telling.{AreTold, is_listed}
-use Rattle.lra_delta.proofs.since.tell_each.Given as goal
-
--- the LRAs of the entries so far are told
-abbrev pub invariant-loop-entry : goal.invariant-loop-entry
-invariant-loop-entry l = AreTold (is_listed (take l.entry-index l.entries)) l.homes l.fn.told.items l.told.items

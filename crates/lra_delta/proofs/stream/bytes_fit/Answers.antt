@@ -1,5 +1,0 @@
-use Rattle.std.proofs.Common.{arith}
-use Rattle.lra_delta.proofs.stream.bytes_fit.Goals as goal
-
-pub returns : goal.returns
-returns c = λ i. omega (arith, c.type_inv.bytes i)

@@ -1,6 +1,0 @@
-use Rattle.lra_forest.proofs.MemberMerges.{SwapTo}
-use Rattle.lra_forest.proofs.merging.are_alike.Given as goal
-
--- for the first members the order of merging doesn't matter
-abbrev pub invariant-loop-place : goal.invariant-loop-place
-invariant-loop-place l = SwapTo l.place l.kept l.other

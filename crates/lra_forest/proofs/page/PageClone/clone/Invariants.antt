@@ -1,6 +1,0 @@
-use Rattle.std.proofs.Common.{◌≡◌, ◌++◌, drop}
-use Rattle.lra_forest.proofs.page.PageClone.clone.Given as goal
-
--- those so far, and those that are left
-abbrev pub invariant-loop-record : goal.invariant-loop-record
-invariant-loop-record l = l.copy ++ drop l.record-index l.self ≡ l.self

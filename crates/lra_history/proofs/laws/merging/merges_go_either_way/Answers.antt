@@ -1,5 +1,0 @@
-use Rattle.lra_history.proofs.MergeIsAJoin.{merge_swap}
-use Rattle.lra_history.proofs.laws.merging.merges_go_either_way.Goals as goal
-
-pub returns : goal.returns
-returns c = merge_swap

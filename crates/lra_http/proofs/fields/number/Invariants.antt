@@ -1,6 +1,0 @@
-use Rattle.std.proofs.Common.{◌≡◌, take, min}
-use Rattle.std.specs.Str.Parse.{digits_value}
-use Rattle.lra_http.proofs.fields.number.Given as goal
-
-abbrev pub invariant-loop-b : goal.invariant-loop-b
-invariant-loop-b l = l.n ≡ min (digits_value 10 (take l.b-index l.text)) l.most

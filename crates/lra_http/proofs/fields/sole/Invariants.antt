@@ -1,8 +1,0 @@
-use Rattle.std.proofs.Common.{take, map}
-use Rattle.httparse.specs.Spans.{header_bytes}
-use Rattle.lra_http.specs.HeadFields.{IsFound}
-use Rattle.lra_http.specs.HeadFields.{values}
-use Rattle.lra_http.proofs.fields.sole.Given as goal
-
-abbrev pub invariant-loop-header : goal.invariant-loop-header
-invariant-loop-header l = IsFound l.found (values l.name (map (header_bytes l.bytes) (take l.header-index l.headers)))

@@ -1,5 +1,0 @@
-use Rattle.lra_http.proofs.Cuts.{cut_is_none}
-use Rattle.lra_http.proofs.laws.a_cut_response_is_none.Goals as goal
-
-pub returns : goal.returns
-returns c = cut_is_none

@@ -1,5 +1,0 @@
-use Rattle.lra_http.proofs.Left.{request_taken}
-use Rattle.lra_http.proofs.laws.a_request_is_taken_off.Goals as goal
-
-pub returns : goal.returns
-returns c = request_taken

@@ -1,5 +1,0 @@
-use Rattle.lra_http.proofs.ResponseVerdicts.{one_fault}
-use Rattle.lra_http.proofs.laws.a_response_has_one_fault.Goals as goal
-
-pub returns : goal.returns
-returns c = one_fault

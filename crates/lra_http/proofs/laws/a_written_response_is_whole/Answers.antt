@@ -1,5 +1,0 @@
-use Rattle.lra_http.proofs.WholeMessages.{whole_response}
-use Rattle.lra_http.proofs.laws.a_written_response_is_whole.Goals as goal
-
-pub returns : goal.returns
-returns c = whole_response

@@ -1,7 +1,0 @@
-use Rattle.std.proofs.Common.{ap, ◌∙◌}
-use Rattle.lra_index.specs.Indexes.{HeldIndex}
-use Rattle.lra_index.proofs.Rooms.{copied}
-use Rattle.lra_index.proofs.index.IndexClone.clone.Goals as goal
-
-pub returns : goal.returns
-returns c = record { cases = copied c.self.inside.origins.items c.in_ok-clone.field-0.items c.in_ok-clone.ensures.cases.0 ∙ ap (λ (x : HeldIndex). x.origins) c.self.view_is }

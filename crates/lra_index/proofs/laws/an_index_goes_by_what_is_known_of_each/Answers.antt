@@ -1,5 +1,0 @@
-use Rattle.lra_index.proofs.OneIndex.{by_each}
-use Rattle.lra_index.proofs.laws.an_index_goes_by_what_is_known_of_each.Goals as goal
-
-pub returns : goal.returns
-returns c = by_each

@@ -1,4 +1,0 @@
-use Rattle.lra_luck.proofs.model.Model.+add_tree.Given as goal
-
-abbrev pub decreases-add_tree : goal.decreases-add_tree
-decreases-add_tree l = l.levels

@@ -1,4 +1,0 @@
-use Rattle.lra_luck.proofs.model.Model.+is_free.Given as goal
-
-abbrev pub decreases-is_free : goal.decreases-is_free
-decreases-is_free l = l.levels

@@ -1,4 +1,0 @@
-use Rattle.lra_luck.proofs.model.Model.+shows_under.Given as goal
-
-abbrev pub decreases-shows_under : goal.decreases-shows_under
-decreases-shows_under l = l.levels

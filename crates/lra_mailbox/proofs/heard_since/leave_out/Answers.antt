@@ -1,7 +1,0 @@
-use Rattle.std.proofs.Common.{rules}
-use Rattle.std.proofs.lemmas.Fn.{filter_same}
-use Rattle.lra_mailbox.specs.Since.{is_unheard}
-use Rattle.lra_mailbox.proofs.heard_since.leave_out.Goals as goal
-
-pub returns : goal.returns
-returns c = filter_same _ (is_unheard c.args.heard.now) _ (λ x b f' k. search rules) _ _ c.retain.ensures.filtered

@@ -1,5 +1,0 @@
-use Rattle.lra_mailbox.proofs.Unheard.{nothing_stored}
-use Rattle.lra_mailbox.proofs.laws.nothing_is_entered_before_the_others_are_heard.Goals as goal
-
-pub returns : goal.returns
-returns c = nothing_stored

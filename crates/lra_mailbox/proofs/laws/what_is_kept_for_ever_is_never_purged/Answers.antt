@@ -1,5 +1,0 @@
-use Rattle.lra_mailbox.proofs.Keeping.{never_purged}
-use Rattle.lra_mailbox.proofs.laws.what_is_kept_for_ever_is_never_purged.Goals as goal
-
-pub returns : goal.returns
-returns c = never_purged

@@ -1,7 +1,0 @@
-use Rattle.std.proofs.Common.{rules}
-use Rattle.std.proofs.lemmas.Fn.{filter_same}
-use Rattle.lra_mailbox.specs.Sweeps.{is_found}
-use Rattle.lra_mailbox.proofs.sweeping.forget_missing.Goals as goal
-
-pub returns : goal.returns
-returns c = filter_same _ is_found _ (λ x b f' k. search rules) _ _ c.retain.ensures.filtered

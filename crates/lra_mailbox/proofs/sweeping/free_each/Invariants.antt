@@ -1,7 +1,0 @@
-use Rattle.std.proofs.Common.{◌≡◌, ◌++◌, drop, map, take}
-use Rattle.lra_mailbox.specs.Sweeps.{freed}
-use Rattle.lra_mailbox.proofs.sweeping.free_each.Given as goal
-
--- those so far are changed, and the others are as they were
-abbrev pub invariant-loop-root : goal.invariant-loop-root
-invariant-loop-root l = l.ended ≡ map (freed l.id) (take l.root-index l.fn.ended) ++ drop l.root-index l.fn.ended

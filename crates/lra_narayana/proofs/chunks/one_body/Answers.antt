@@ -1,5 +1,0 @@
-use Rattle.lra_narayana.proofs.OneBody.{one_body}
-use Rattle.lra_narayana.proofs.chunks.one_body.Goals as goal
-
-pub returns : goal.returns
-returns c = one_body

@@ -1,8 +1,0 @@
-use Rattle.std.proofs.Common.{◌≡◌, take, map}
-use Rattle.httparse.specs.Spans.{header_bytes}
-use Rattle.lra_http.specs.HeadFields.{values}
-use Rattle.lra_narayana.specs.Framings.{last_value}
-use Rattle.lra_narayana.proofs.fields.value_in.Given as goal
-
-abbrev pub invariant-loop-header : goal.invariant-loop-header
-invariant-loop-header l = l.last ≡ last_value (values l.name (map (header_bytes l.head) (take l.header-index l.headers)))

@@ -1,5 +1,0 @@
-use Rattle.lra_narayana.proofs.OneAnswer.{one_answer}
-use Rattle.lra_narayana.proofs.message.one_answer.Goals as goal
-
-pub returns : goal.returns
-returns c = one_answer

@@ -1,9 +1,0 @@
--- The result of opening a link.
-use Rattle.std.specs.Prelude.{◌≡◌, ℕ, List, Option, Some, None, string_bytes}
-use Rattle.lra_narayana.specs.declared.kind.Kind.{Kind}
-use Rattle.lra_narayana.specs.declared.carried.Opened.{Opened}
-
--- a link of this kind was opened
-abbrev pub IsOpened : Option Opened → Kind → List ℕ → Type 0
-IsOpened None kind link = ⊥
-IsOpened (Some it) kind link = (it.kind ≡ kind) × (string_bytes it.link ≡ link)

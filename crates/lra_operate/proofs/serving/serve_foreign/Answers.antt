@@ -1,5 +1,0 @@
-use Rattle.lra_operate.specs.Doors.{foreign_answer}
-use Rattle.lra_operate.proofs.serving.serve_foreign.Goals as goal
-
-pub returns : goal.returns
-returns g c = c.end.ensures.written foreign_answer c.foreign_answer-made.ensures

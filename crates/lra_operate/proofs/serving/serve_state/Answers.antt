@@ -1,8 +1,0 @@
-use Rattle.lra_operate.proofs.Sent.{ended}
-use Rattle.lra_operate.specs.Serving.{IsTold}
-use Rattle.lra_operate.proofs.serving.serve_state.Goals as goal
-
-pub returns : goal.returns
-returns g c =
-    ended (IsTold g.T.State c.args.state.now c.args.topic) c.told_answer-made.result g.W.Sink c.args.writer.now c.end.new.writer c.end.result
-    c.told_answer-made.ensures c.end.ensures.written c.end.ensures.none

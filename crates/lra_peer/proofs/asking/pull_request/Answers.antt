@@ -1,5 +1,0 @@
-use Rattle.lra_peer.proofs.Requested.{requested}
-use Rattle.lra_peer.proofs.asking.pull_request.Goals as goal
-
-pub returns : goal.returns
-returns c = requested c.args.query.now c.args.front.now c.parts_of.result c.parts_of.ensures

@@ -1,7 +1,0 @@
-use Rattle.std.proofs.Common.{◌≡◌, ◌++◌, take}
-use Rattle.lra_delta.specs.Encoding.{vector}
-use Rattle.lra_peer.proofs.bodies.push_counts.Given as goal
-
--- the counts so far were added
-abbrev pub invariant-loop-count : goal.invariant-loop-count
-invariant-loop-count l = l.body.items ≡ l.fn.body.items ++ vector (take l.count-index l.counts)

@@ -1,5 +1,0 @@
-use Rattle.lra_peer.proofs.Sounds.{written_frame}
-use Rattle.lra_peer.proofs.laws.a_written_frame_is_an_answer.Goals as goal
-
-pub returns : goal.returns
-returns c = written_frame

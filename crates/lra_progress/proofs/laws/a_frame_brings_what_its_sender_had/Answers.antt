@@ -1,5 +1,0 @@
-use Rattle.lra_progress.proofs.Hearing.{hears_below}
-use Rattle.lra_progress.proofs.laws.a_frame_brings_what_its_sender_had.Goals as goal
-
-pub returns : goal.returns
-returns c = hears_below

@@ -1,5 +1,0 @@
-use Rattle.lra_progress.proofs.RoundsExist.{round_exists}
-use Rattle.lra_progress.proofs.laws.a_round_can_be_made.Goals as goal
-
-pub returns : goal.returns
-returns c = λ s world can. round_exists s world can

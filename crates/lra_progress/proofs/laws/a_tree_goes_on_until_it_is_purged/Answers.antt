@@ -1,6 +1,0 @@
-use Rattle.lra_progress.proofs.OpenUnder.{ended_uncalled}
-use Rattle.lra_progress.proofs.UntilPurged.{goes_on}
-use Rattle.lra_progress.proofs.laws.a_tree_goes_on_until_it_is_purged.Goals as goal
-
-pub returns : goal.returns
-returns c = record { on = goes_on; ended = ended_uncalled }

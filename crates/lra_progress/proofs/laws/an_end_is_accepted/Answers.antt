@@ -1,5 +1,0 @@
-use Rattle.lra_progress.proofs.EndsAccepted.{end_accepted}
-use Rattle.lra_progress.proofs.laws.an_end_is_accepted.Goals as goal
-
-pub returns : goal.returns
-returns c = end_accepted

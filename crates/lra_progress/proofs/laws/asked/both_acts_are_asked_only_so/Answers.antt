@@ -1,5 +1,0 @@
-use Rattle.lra_progress.proofs.AskedInTheWorld.{both_above, both_root}
-use Rattle.lra_progress.proofs.laws.asked.both_acts_are_asked_only_so.Goals as goal
-
-pub returns : goal.returns
-returns c = record { above = both_above; root = both_root }

@@ -1,6 +1,0 @@
-use Rattle.lra_progress.proofs.ListedActs.{listed_act}
-use Rattle.lra_progress.proofs.UnderWay.{way_calls, way_home, way_listed, way_world}
-use Rattle.lra_progress.proofs.laws.nothing_is_stuck.Goals as goal
-
-pub returns : goal.returns
-returns c = record { set = way_calls; world = way_world; listed = way_listed; home = way_home; due = λ view home call there asks. listed_act view home call asks there }

@@ -1,5 +1,0 @@
-use Rattle.lra_progress.proofs.AllCounted.{round_brings}
-use Rattle.lra_progress.proofs.laws.one_round_brings_what_was_entered.Goals as goal
-
-pub returns : goal.returns
-returns c = round_brings

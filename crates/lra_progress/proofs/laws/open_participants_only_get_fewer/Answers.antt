@@ -1,6 +1,0 @@
-use Rattle.lra_progress.proofs.OpenUnder.{ended_none}
-use Rattle.lra_progress.proofs.OpenInAHistory.{falls, stays}
-use Rattle.lra_progress.proofs.laws.open_participants_only_get_fewer.Goals as goal
-
-pub returns : goal.returns
-returns c = record { stays = stays; falls = falls; none = ended_none }

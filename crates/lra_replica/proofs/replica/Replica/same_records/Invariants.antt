@@ -1,6 +1,0 @@
-use Rattle.lra_replica.proofs.SameHomes.{AreSameTo}
-use Rattle.lra_replica.proofs.replica.Replica.same_records.Given as goal
-
--- the homes so far have the same records
-abbrev pub invariant-loop-place : goal.invariant-loop-place
-invariant-loop-place l = AreSameTo l.place l.self.homes l.other.homes

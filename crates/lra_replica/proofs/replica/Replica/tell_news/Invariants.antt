@@ -1,9 +1,0 @@
-use Rattle.std.proofs.Common.{take}
-use Rattle.std.specs.List.{AllZip}
-use Rattle.lra_replica.specs.Replicas.{view_of}
-use Rattle.lra_replica.specs.Tellings.{IsToldBy}
-use Rattle.lra_replica.proofs.replica.Replica.tell_news.Given as goal
-
--- the homes so far are told
-abbrev pub invariant-loop-home : goal.invariant-loop-home
-invariant-loop-home l = AllZip (IsToldBy (view_of l.other)) (take l.home-index l.home-items) l.homes.items

@@ -1,5 +1,0 @@
-use Rattle.lra_trail.proofs.Played.{found_answer, lost_answer}
-use Rattle.lra_trail.proofs.laws.a_lost_answer_is_at_most_one_event.Goals as goal
-
-pub returns : goal.returns
-returns c = record { entry = lost_answer; found = found_answer }

@@ -1,5 +1,0 @@
-use Rattle.lra_trail.proofs.Answering.{answers, member, shown}
-use Rattle.lra_trail.proofs.laws.a_node_answers_as_the_world.Goals as goal
-
-pub returns : goal.returns
-returns c = record { set = answers; shown = shown; member = member }

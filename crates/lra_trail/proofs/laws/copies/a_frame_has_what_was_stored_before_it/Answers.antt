@@ -1,5 +1,0 @@
-use Rattle.lra_trail.proofs.Copied.{has_before}
-use Rattle.lra_trail.proofs.laws.copies.a_frame_has_what_was_stored_before_it.Goals as goal
-
-pub returns : goal.returns
-returns c = has_before

@@ -1,5 +1,0 @@
-use Rattle.lra_trail.proofs.Copied.{taken_back}
-use Rattle.lra_trail.proofs.laws.copies.a_lost_node_takes_back_what_was_copied.Goals as goal
-
-pub returns : goal.returns
-returns c = taken_back

@@ -1,5 +1,0 @@
-use Rattle.lra_trail.proofs.Copied.{goes_on}
-use Rattle.lra_trail.proofs.laws.copies.its_numbers_go_on.Goals as goal
-
-pub returns : goal.returns
-returns c = goes_on

@@ -1,7 +1,0 @@
-use Rattle.std.proofs.Common.{map, string_bytes}
-use Rattle.lra_words.proofs.ChoiceWords.{one_said}
-use Rattle.lra_words.proofs.texts.text_of.Goals as goal
-
-pub returns-clause-one : goal.returns-clause-one
-returns-clause-one c = λ text others other e.
-    one_said c.args.name.now c.in-Some.text.now (map string_bytes c.args.words.now) (map string_bytes c.in-Some.others.now) others text c.in-Some.ensures other e

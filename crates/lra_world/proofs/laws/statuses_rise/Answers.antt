@@ -1,6 +1,0 @@
-use Rattle.lra_world.proofs.Moving.{run_keeps}
-use Rattle.lra_world.proofs.StatusesRise.{statuses_rise}
-use Rattle.lra_world.proofs.laws.statuses_rise.Goals as goal
-
-pub returns : goal.returns
-returns c = λ s t events replies world runs. statuses_rise s t world (run_keeps s t events replies world runs)

@@ -1,0 +1,7 @@
+use Rattle.std.proofs.Common.{◌≡◌, ◌++◌, drop, map, take}
+use Rattle.node_agenda.specs.Sweeps.{freed}
+use Rattle.node_agenda.proofs.sweeping.free_each.Given as goal
+
+-- those so far are changed, and the others are as they were
+abbrev pub invariant-loop-root : goal.invariant-loop-root
+invariant-loop-root l = l.ended ≡ map (freed l.id) (take l.root-index l.fn.ended) ++ drop l.root-index l.fn.ended

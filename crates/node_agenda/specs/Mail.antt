@@ -1,0 +1,167 @@
+-- What the threads of a node hand to one another, and when what is to be done with it.
+use Rattle.std.specs.Prelude.{◌-◌, ◌+◌, ◌&&◌, ◌||◌, ◌==◌, ℕ, Bool, true, false, List, Option, if◌then◌else◌, length, max, min, nat_le, nat_lt, slice_set}
+use Rattle.std.specs.List.{list_any}
+use Rattle.std.specs.Duration.{as_nanos}
+use Rattle.std.specs.declared.time.Duration.{Duration}
+use Rattle.state_ids.specs.Fronts.{count, join_fronts}
+use Rattle.node_inbox.specs.Tellings.{Told}
+use Rattle.node_inbox.specs.Letters.{Said}
+use Rattle.node_schedule.specs.Calling.{Calling}
+use Rattle.node_schedule.specs.Slips.{at_once}
+use Rattle.node_schedule.specs.Turns.{is_due}
+use Rattle.node_agenda.specs.Since.{Since}
+use Rattle.node_agenda.specs.Sweeps.{Sweeps}
+use Rattle.node_agenda.specs.declared.asking.Asking.{Asking}
+use Rattle.node_agenda.specs.declared.known_fronts.KnownFronts.{KnownFronts}
+use Rattle.node_agenda.specs.declared.start_state.StartState.{StartState}
+use Rattle.node_agenda.specs.declared.task.OperatorWant.{OperatorWant}
+use Rattle.node_agenda.specs.declared.task.OperatorWant.TheVariants.{Command, Nothing, Question}
+use Rattle.node_agenda.specs.declared.turn.Turn.{Turn}
+
+-- Whom to call; the letters that aren't stored yet, oldest first; a telling that waits to be taken;
+-- what is known of how many facts there are; whether commands are accepted yet; when deadlines are
+-- checked, and when a new list of duties is asked for; until when nothing is stored because the
+-- journal failed; which kind of task had its turn last; whether the writer thread is to check
+-- whether the run is over; whether the program is to end; what operators want; what has ended and
+-- is to be purged; and which participants were heard from since the pending list was asked for
+pub record Mail : Type 0 where
+  pub calls : Calling
+  pub letters : List Said
+  pub telling : Option Told
+  pub known : KnownFronts
+  pub opening : StartState
+  pub asking : Asking
+  pub held_until : Duration
+  pub last : Turn
+  pub is_hurried : Bool
+  pub has_ended : Bool
+  pub wanted : OperatorWant
+  pub sweeps : Sweeps
+  pub since : Since
+
+-- the state with one of these parts replaced
+abbrev pub with_calls : Calling → Mail → Mail
+with_calls calls m = record m { calls = calls }
+
+abbrev pub with_letters : List Said → Mail → Mail
+with_letters letters m = record m { letters = letters }
+
+abbrev pub with_telling : Option Told → Mail → Mail
+with_telling telling m = record m { telling = telling }
+
+abbrev pub with_known : KnownFronts → Mail → Mail
+with_known known m = record m { known = known }
+
+abbrev pub with_opening : StartState → Mail → Mail
+with_opening opening m = record m { opening = opening }
+
+abbrev pub with_asking : Asking → Mail → Mail
+with_asking asking m = record m { asking = asking }
+
+abbrev pub with_hold : Duration → Mail → Mail
+with_hold until m = record m { held_until = until }
+
+abbrev pub with_last : Turn → Mail → Mail
+with_last last m = record m { last = last }
+
+abbrev pub with_hurry : Bool → Mail → Mail
+with_hurry is_hurried m = record m { is_hurried = is_hurried }
+
+abbrev pub with_end : Mail → Mail
+with_end m = record m { has_ended = true }
+
+abbrev pub with_wanted : OperatorWant → Mail → Mail
+with_wanted wanted m = record m { wanted = wanted }
+
+abbrev pub with_sweeps : Sweeps → Mail → Mail
+with_sweeps sweeps m = record m { sweeps = sweeps }
+
+abbrev pub with_since : Since → Mail → Mail
+with_since since m = record m { since = since }
+
+-- whether a call that operators want is to be made now, given whether facts of the node's own may
+-- be stored; and whether one is wanted
+abbrev pub is_wanted : Bool → OperatorWant → Bool
+is_wanted may_enter Nothing = false
+is_wanted may_enter Question = true
+is_wanted may_enter Command = may_enter
+
+abbrev pub is_any : OperatorWant → Bool
+is_any Nothing = false
+is_any Question = true
+is_any Command = true
+
+-- after it is known that the node has at least these facts of each node
+abbrev pub learnt : List ℕ → KnownFronts → KnownFronts
+learnt front known = record { front = if length known.front == length front then join_fronts known.front front else known.front; is_counted = known.is_counted; is_to_count = known.is_to_count; counts_at = known.counts_at; untaken = known.untaken; tellings = known.tellings }
+
+-- after it is known how many facts it has; and after that is to be asked
+abbrev pub counted : KnownFronts → KnownFronts
+counted known = record { front = known.front; is_counted = true; is_to_count = known.is_to_count; counts_at = known.counts_at; untaken = known.untaken; tellings = known.tellings }
+
+abbrev pub to_count : KnownFronts → KnownFronts
+to_count known = record { front = known.front; is_counted = known.is_counted; is_to_count = true; counts_at = known.counts_at; untaken = known.untaken; tellings = known.tellings }
+
+-- after another node sent at most this many facts of its own in tellings that are neither taken nor
+-- given up yet, and this many of its tellings are left
+abbrev pub is_counted_by : (other : ℕ) → KnownFronts → Bool
+is_counted_by other known = nat_le other (length known.untaken) && nat_le other (length known.tellings)
+
+abbrev pub set_if : Bool → (other value : ℕ) → List ℕ → List ℕ
+set_if fits other value counts = if fits then slice_set counts (other - 1) value else counts
+
+abbrev pub with_untaken : (other told left : ℕ) → KnownFronts → KnownFronts
+with_untaken other told left known = record { front = known.front; is_counted = known.is_counted; is_to_count = known.is_to_count; counts_at = known.counts_at; untaken = set_if (is_counted_by other known) other told known.untaken; tellings = set_if (is_counted_by other known) other left known.tellings }
+
+-- after it sent one more telling, with this many
+abbrev pub told_by_it : (other told : ℕ) → KnownFronts → KnownFronts
+told_by_it other told known = with_untaken other (max (count known.untaken other) told) (min (count known.tellings other) 99 + 1) known
+
+-- after one of its tellings is taken or given up: with the last one, nothing is untaken any more
+abbrev pub left_of : (left told : ℕ) → ℕ
+left_of left told = if left == 0 then 0 else told
+
+abbrev pub settled : (other : ℕ) → KnownFronts → KnownFronts
+settled other known = with_untaken other (left_of (count known.tellings other - 1) (count known.untaken other)) (count known.tellings other - 1) known
+
+-- after the end of a telling with this front, which was taken or wasn't
+abbrev pub ended_by : (other : ℕ) → List ℕ → (is_taken : Bool) → KnownFronts → KnownFronts
+ended_by other front is_taken known = settled other (if is_taken then learnt front known else known)
+
+-- a node that asks is owed facts of its own: it sent more of them than it counts, and they aren't
+-- stored here yet
+abbrev pub is_owed : (from : ℕ) → (asks : List ℕ) → KnownFronts → Bool
+is_owed from asks known = nat_lt (count asks from) (count known.untaken from) && nat_lt (count known.front from) (count known.untaken from)
+
+-- after a new list of duties is to be asked for: now, or when deadlines are next checked
+abbrev pub stirred : Asking → Asking
+stirred a = record { is_stirred = true; is_put_off = a.is_put_off; asked_at = a.asked_at; ticks_at = a.ticks_at }
+
+abbrev pub put_off : Asking → Asking
+put_off a = record { is_stirred = a.is_stirred; is_put_off = true; asked_at = a.asked_at; ticks_at = a.ticks_at }
+
+-- after the list was asked for
+abbrev pub asked : Duration → Asking → Asking
+asked now a = record { is_stirred = false; is_put_off = a.is_put_off; asked_at = now; ticks_at = a.ticks_at }
+
+-- after deadlines are to be checked at once
+abbrev pub hastened : Asking → Asking
+hastened a = record { is_stirred = a.is_stirred; is_put_off = a.is_put_off; asked_at = a.asked_at; ticks_at = at_once }
+
+-- whether a check of deadlines asks for a new list of duties: that was put off, or some participant
+-- is to be called and no list was asked for in half a minute
+abbrev pub is_to_ask_again : Duration → Bool → Asking → Bool
+is_to_ask_again now is_anyone a = a.is_put_off || (is_anyone && nat_le 30_000_000_000 (as_nanos now - as_nanos a.asked_at))
+
+-- after deadlines were checked, if they are checked next at this moment
+abbrev pub looked : Duration → Bool → Duration → Asking → Asking
+looked now is_anyone next a = record { is_stirred = a.is_stirred || is_to_ask_again now is_anyone a; is_put_off = false; asked_at = a.asked_at; ticks_at = next }
+
+-- whether some participant is to be called, is being called, or pauses
+abbrev pub is_anyone : Mail → Bool
+is_anyone m = nat_lt 0 (length m.calls.slips)
+
+-- after other participants may be due: a new list is asked for now or, if nothing new is due by
+-- what happened and others still wait, when deadlines are next checked
+abbrev pub after_news : Bool → Mail → Mail
+after_news makes_none_due m = with_asking (if makes_none_due && list_any is_due m.calls.now.hosts then put_off m.asking else stirred m.asking) m

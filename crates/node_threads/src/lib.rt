@@ -1,0 +1,41 @@
+//! The threads of a node that know no journal, one in each file: the thread that accepts
+//! connections, those that call participants, those that pull, and the one that watches; and what
+//! they share (`Node`): the mailbox, counts, news. The lines for standard error, and the program's
+//! end, belong to all nodes.
+#![tactic(auto)]
+
+mod accepting;
+mod asking;
+mod build;
+mod calling;
+mod counts;
+mod desk_watch;
+mod followers;
+mod following;
+mod mailbox;
+mod news;
+mod node;
+mod plaints;
+mod shutdown;
+mod stderr_lines;
+mod tally;
+mod watching;
+
+pub use accepting::{accept, accept_operators};
+pub use asking::pull_in_turn;
+pub use build::Build;
+pub use calling::call_out;
+pub use counts::{
+    CALL_NAMES, CallKind, Counts, HEARD, KINDS, Numbers, PULLS, REFUSALS, RUNS, SWEPT,
+};
+pub use desk_watch::DeskWatch;
+pub use followers::{Followers, Waited, Wants};
+pub use following::follow;
+pub use mailbox::Mailbox;
+pub use news::News;
+pub use node::{Manners, Node};
+pub use plaints::Plaint;
+pub use shutdown::{End, Shutdown, drain};
+pub use stderr_lines::{Lines, ToLines, lines_of};
+pub use tally::Tally;
+pub use watching::watch;

@@ -1,0 +1,5 @@
+use Rattle.state_book.proofs.OneNext.{one_next_view}
+use Rattle.state_book.proofs.laws.a_call_has_one_next_view.Goals as goal
+
+pub returns : goal.returns
+returns c = one_next_view

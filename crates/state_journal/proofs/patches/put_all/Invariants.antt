@@ -1,0 +1,14 @@
+use Rattle.std.proofs.Common.{◌≡◌, take}
+use Rattle.sqlite.specs.Held.{state}
+use Rattle.sqlite.specs.State.{HasCleanDisk, KeepsCommit, Survives}
+use Rattle.state_journal.specs.Tables.{GoesOn, IsWriting}
+use Rattle.state_journal.specs.Stands.{PutsRecord}
+use Rattle.state_journal.specs.Turns.{InTurn}
+use Rattle.state_journal.proofs.patches.put_all.Given as goal
+
+abbrev pub invariant-records : goal.invariant-records
+invariant-records g l =
+    let old = state g.S.Store l.fn.tx.conn.now in
+    let now = state g.S.Store l.tx.conn.now in
+    (l.tx.conn.ghost_name ≡ l.fn.tx.conn.ghost_name) × Survives old now (λ _. ⊥) × (HasCleanDisk now → KeepsCommit old now)
+    × (HasCleanDisk now → IsWriting old → GoesOn (InTurn PutsRecord (take l.kept-index l.records)) old now)

@@ -1,0 +1,5 @@
+use Rattle.theory_progress.proofs.RoundsExist.{round_exists}
+use Rattle.theory_progress.proofs.laws.a_round_can_be_made.Goals as goal
+
+pub returns : goal.returns
+returns c = λ s world can. round_exists s world can

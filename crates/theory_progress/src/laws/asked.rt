@@ -1,0 +1,63 @@
+//! Laws of what a participant is asked. The author of a service may rely on them. By the clause
+//! `listed`, a call is due exactly when the home lists it.
+ghost use Rattle.std.specs.Prelude.{◌≡◌, ◌↔◌, ℕ, List, false, true};
+ghost use Rattle.state_ids.specs.Ids.{Id};
+ghost use Rattle.state_ids.specs.declared.outcome.Act.{Act as TheAct};
+ghost use Rattle.state_ids.specs.declared.outcome.Act.TheVariants.{Compensate, Complete};
+ghost use Rattle.state_facts.specs.Duties.{is_pending};
+ghost use Rattle.state_facts.specs.Lists.{In};
+ghost use Rattle.state_facts.specs.Sets.{heard, is_root};
+ghost use Rattle.theory_history.specs.Views.{View};
+ghost use Rattle.wire_callbacks.specs.declared.answer.Kind.TheVariants.{After, Forget};
+ghost use Rattle.wire_callbacks.specs.declared.duty.Duty.{Duty};
+ghost use Rattle.wire_callbacks.specs.CallDuties.{IsDuty};
+ghost use Rattle.wire_callbacks.specs.ViewDuties.{duties_of};
+ghost use Rattle.script_world.specs.declared.event.Event.{Event};
+ghost use Rattle.script_world.specs.declared.event.EventReply.{EventReply};
+ghost use Rattle.script_world.specs.Headline.{IsAncestorCancelled, IsNode};
+ghost use Rattle.script_world.specs.Worlds.{IsViewOf, IsWorld, Runs, State, front_of, set_of};
+ghost use Rattle.theory_progress.specs.Asked.{IsAskedFor, IsCalledTo};
+
+/// What a participant is asked only moves forward, whatever happens. Once it was due to be asked to
+/// compensate, no node is to ask it to complete. Once a node heard the end of an act, that node
+/// doesn't ask for the act again. Once the participant was due to be called to forget, or to hear
+/// of the end, it is asked for no act any more.
+pub fn what_is_asked_goes_one_way()
+    ensures compensated { (s t : State) (events : List Event) (replies : List EventReply)
+        (one other : ℕ) (l : Id) (m : ℕ) → IsWorld s → Runs s events replies t → IsNode s one →
+        IsNode t other → IsAskedFor s one l m Compensate → IsAskedFor t other l m Complete → ⊥ }
+    ensures ended { (s t : State) (events : List Event) (replies : List EventReply)
+        (node : ℕ) (l : Id) (m : ℕ) (act : TheAct) → IsWorld s → Runs s events replies t →
+        IsNode s node → is_pending (heard (set_of s node) l m act) ≡ false →
+        IsAskedFor t node l m act → ⊥ }
+    ensures forgets { (s t : State) (events : List Event) (replies : List EventReply)
+        (node : ℕ) (l : Id) (m : ℕ) (act : TheAct) → IsWorld s → Runs s events replies t →
+        IsNode s node → IsCalledTo s node l m Forget → IsAskedFor t node l m act → ⊥ }
+    ensures hears { (s t : State) (events : List Event) (replies : List EventReply)
+        (node : ℕ) (l : Id) (m : ℕ) (act : TheAct) → IsWorld s → Runs s events replies t →
+        IsNode s node → IsCalledTo s node l m After → IsAskedFor t node l m act → ⊥ }
+{}
+
+/// A participant is asked for both acts only if an LRA above its own was cancelled, and then to
+/// complete first, by the clause `compensated`. So a participant of a root is asked for only one of
+/// the two.
+pub fn both_acts_are_asked_only_so()
+    ensures above { (s t : State) (events : List Event) (replies : List EventReply)
+        (one other : ℕ) (l : Id) (m : ℕ) → IsWorld s → Runs s events replies t →
+        IsNode s one → IsNode t other → IsAskedFor s one l m Complete →
+        IsAskedFor t other l m Compensate → IsAncestorCancelled t l }
+    ensures root { (s t : State) (events : List Event) (replies : List EventReply)
+        (one other : ℕ) (l : Id) (m : ℕ) → IsWorld s → Runs s events replies t →
+        IsNode s one → IsNode t other → is_root (set_of s one) l ≡ true →
+        IsAskedFor s one l m Complete → IsAskedFor t other l m Compensate → ⊥ }
+{}
+
+/// A call is due at a node exactly when it is on the list that the node makes from its view. It is
+/// a call to a participant of an LRA whose home is that node.
+pub fn a_call_is_listed_where_it_is_due()
+    ensures listed { (s : State) (node : ℕ) (view : View) (call : Duty) →
+        IsWorld s → IsNode s node → IsViewOf s.history (front_of s node) view →
+        In call (duties_of view node) ↔ IsDuty node (set_of s node) call }
+    ensures home { (s : State) (node : ℕ) (call : Duty) →
+        IsDuty node (set_of s node) call → call.id.home ≡ node }
+{}

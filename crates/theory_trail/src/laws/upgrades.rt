@@ -1,0 +1,27 @@
+//! Laws of upgrades: a journal of version 1 is rewritten when it is opened.
+ghost use Rattle.std.specs.Prelude.{◌≡◌, ℕ, List};
+ghost use Rattle.sqlite.specs.Tree.{Trees};
+ghost use Rattle.theory_history.specs.Views.{View};
+ghost use Rattle.theory_trail.specs.Upgrades.{AreStopped, IsFoundIn, StoppedOpening};
+
+use sqlite::Alter;
+use state_journal::laws::rows_stand_for_one_view;
+
+/// An upgrade may be killed. Suppose that a journal of either version is opened and the program
+/// stops at any moment of that, any number of times. Then its rows still stand for the same view as
+/// before, in version 1 or 2, and the next opening finds that view and no other. The clauses
+/// `crash` and `crash_refused` of `state_journal::Journal::open` say what an opening left, and
+/// `reads` says what is found. It is the kit's word that a stop within an opening leaves no more,
+/// and that the store which is opened then is a journal with the rows that were left.
+pub fn an_upgrade_may_be_killed<S: Alter>()
+    ensures stands { (me nodes : ℕ) (before after : Trees)
+        (openings : List (StoppedOpening S)) (view : View) →
+        AreStopped S.Store me nodes before openings after →
+        IsFoundIn me before view → IsFoundIn me after view }
+    ensures found { (me nodes : ℕ) (before after : Trees)
+        (openings : List (StoppedOpening S)) (view found : View) →
+        AreStopped S.Store me nodes before openings after →
+        IsFoundIn me before view → IsFoundIn me after found → found ≡ view }
+{
+    rows_stand_for_one_view();
+}

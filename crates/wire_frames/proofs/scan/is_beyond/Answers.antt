@@ -1,0 +1,5 @@
+use Rattle.wire_frames.proofs.HomeParts.{beyond_is}
+use Rattle.wire_frames.proofs.scan.is_beyond.Goals as goal
+
+pub returns : goal.returns
+returns c = beyond_is c.args.base.now c.args.kept.now.stamps c.below.result c.below.ensures

@@ -1,0 +1,5 @@
+use Rattle.wire_http.proofs.RequestVerdicts.{one_fault}
+use Rattle.wire_http.proofs.laws.a_request_has_one_fault.Goals as goal
+
+pub returns : goal.returns
+returns c = one_fault

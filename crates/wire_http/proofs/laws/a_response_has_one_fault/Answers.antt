@@ -1,0 +1,5 @@
+use Rattle.wire_http.proofs.ResponseVerdicts.{one_fault}
+use Rattle.wire_http.proofs.laws.a_response_has_one_fault.Goals as goal
+
+pub returns : goal.returns
+returns c = one_fault
