@@ -136,7 +136,7 @@ TYPES = {
     "lra_run": {"Opening": "JournalOpening", "Run": "SimRun"},
     "lra_turns": {"Calls": "Schedule", "Came": "CallFailure", "Due": "StartedCall", "Stand": "SlipState"},
     "lra_callback": {"Errand": "Purpose"},
-    "lra_forest": {"Errand": "DutyKind"},
+    "lra_forest": {"Errand": "DutyKind", "Page": "RecordPage"},
     "lra_api": {"Answer": "ApiResponse", "Body": "ResponseBody", "LinkName": "JoinLink"},
     "lra_index": {"Entry": "StampEntry"},
     "lra_world": {"Reply": "EventReply"},

@@ -17,11 +17,11 @@ const PAGE_ROOM: usize = 32;
 
 /// Up to 32 records. There is always room for that many.
 #[derive(Debug, Drop)]
-pub(crate) struct Page {
+pub(crate) struct RecordPage {
     records: Vec<Record>,
 }
 
-impl Model for Page {
+impl Model for RecordPage {
     ghost use Rattle.std.specs.Prelude.{◌≤◌, List, vec_capacity, vec_len};
     ghost use Rattle.state_forest.specs.declared.page.TheConstants.{PAGE_ROOM};
     ghost use Rattle.state_forest.specs.declared.record.Record.{Record};
@@ -129,12 +129,12 @@ fn remove_among(records: &mut Vec<Record>, num: u64)
     }
 }
 
-impl Page {
+impl RecordPage {
     /// Makes an empty page with room for 32 records.
-    pub(crate) fn new(alloc: Global) -> Result<Page, AllocError>
+    pub(crate) fn new(alloc: Global) -> Result<RecordPage, AllocError>
         ensures { IfOk result (λ page. page ≡ []) }
     {
-        Ok(Page {
+        Ok(RecordPage {
             records: Vec::with_capacity(alloc, PAGE_ROOM)?,
         })
     }
@@ -244,7 +244,7 @@ impl Page {
     }
 
     /// Moves all but the first 16 records to an empty page.
-    pub(crate) fn part(&mut self, upper: &mut Page)
+    pub(crate) fn part(&mut self, upper: &mut RecordPage)
         requires full { length self.old ≡ PAGE_ROOM }
         requires empty { upper.old ≡ [] }
         ensures records { self.new ++ upper.new ≡ self.old }
@@ -273,11 +273,11 @@ fn part_records(lower: &mut Vec<Record>, upper: &mut Vec<Record>)
     }
 }
 
-impl Clone for Page {
+impl Clone for RecordPage {
     ghost is_clone = { λ x y. y ≡ x };
 
-    fn clone(&self) -> Result<Page, AllocError> {
-        let mut copy = Page::new(*self.records.allocator())?;
+    fn clone(&self) -> Result<RecordPage, AllocError> {
+        let mut copy = RecordPage::new(*self.records.allocator())?;
         for record in &self.records {
             copy.push_copy(record)?;
         }

@@ -10,7 +10,7 @@ ghost use Rattle.state_forest.specs.Pages.{AreEmptyLast, FitsAt, IsLastSeat, IsP
 ghost use Rattle.state_forest.specs.Places.{count_below, put_record, with_number};
 
 use crate::Record;
-use crate::page::Page;
+use crate::page::RecordPage;
 use std::alloc::{AllocError, Global};
 use std::marker::Model;
 use std::vec;
@@ -30,7 +30,7 @@ const MAX_PAGES: usize = 1 << 32;
 /// count. No clause says that one empty page is kept.
 #[derive(Debug, Drop)]
 pub(crate) struct Pages {
-    pages: Vec<Page>,
+    pages: Vec<RecordPage>,
 }
 
 impl Model for Pages {
@@ -48,7 +48,7 @@ impl Model for Pages {
 }
 
 /// Returns the place of the first page that doesn't lie below a number. It uses binary search.
-fn page_of(pages: &[Page], num: u64) -> usize
+fn page_of(pages: &[RecordPage], num: u64) -> usize
     requires order { IsAscending (records_in pages.now) }
     requires last { AreEmptyLast pages.now }
     ensures { IsPageOf num result pages.now }
@@ -56,7 +56,7 @@ fn page_of(pages: &[Page], num: u64) -> usize
     pages.partition_point(|page| page.lies_below(num))
 }
 
-fn numbered_in(pages: &[Page], num: u64) -> Option<&Record>
+fn numbered_in(pages: &[RecordPage], num: u64) -> Option<&Record>
     requires order { IsAscending (records_in pages.now) }
     requires last { AreEmptyLast pages.now }
     ensures { let all = records_in pages.now
@@ -68,7 +68,7 @@ fn numbered_in(pages: &[Page], num: u64) -> Option<&Record>
     }
 }
 
-fn exchange_in(pages: &mut Vec<Page>, next: Record) -> Record
+fn exchange_in(pages: &mut Vec<RecordPage>, next: Record) -> Record
     requires order { IsAscending (records_in pages.old.items) }
     requires last { AreEmptyLast pages.old.items }
     requires there { let all = records_in pages.old.items in
@@ -85,7 +85,7 @@ fn exchange_in(pages: &mut Vec<Page>, next: Record) -> Record
 }
 
 /// Inserts a page at a place. There must be room for one more.
-fn insert_page(pages: &mut Vec<Page>, at: usize, page: Page)
+fn insert_page(pages: &mut Vec<RecordPage>, at: usize, page: RecordPage)
     requires within { at ≤ vec_len pages.old }
     requires room { vec_len pages.old < vec_capacity pages.old }
     ensures items { pages.new.items ≡ insert pages.old.items at page }
@@ -96,7 +96,7 @@ fn insert_page(pages: &mut Vec<Page>, at: usize, page: Page)
 
 /// Moves half of the records of a full page to an empty page behind it, and returns the place of
 /// the one on which a number belongs.
-fn seat_on_half(pages: &mut Vec<Page>, at: usize, num: u64) -> usize
+fn seat_on_half(pages: &mut Vec<RecordPage>, at: usize, num: u64) -> usize
     requires last { AreEmptyLast pages.old.items }
     requires spare { 1 ≤ empty_pages pages.old.items }
     requires fits { FitsAt num at pages.old.items }
@@ -121,7 +121,7 @@ fn seat_on_half(pages: &mut Vec<Page>, at: usize, num: u64) -> usize
 
 /// Returns the place of a page with room for one more record, whose number no record has. If the
 /// page where it belongs is full, half of the records there move to an empty page.
-fn seat(pages: &mut Vec<Page>, num: u64) -> usize
+fn seat(pages: &mut Vec<RecordPage>, num: u64) -> usize
     requires order { IsAscending (records_in pages.old.items) }
     requires last { AreEmptyLast pages.old.items }
     requires spare { 1 ≤ empty_pages pages.old.items }
@@ -143,7 +143,7 @@ fn seat(pages: &mut Vec<Page>, num: u64) -> usize
     }
 }
 
-fn add_in(pages: &mut Vec<Page>, added: Record)
+fn add_in(pages: &mut Vec<RecordPage>, added: Record)
     requires order { IsAscending (records_in pages.old.items) }
     requires last { AreEmptyLast pages.old.items }
     requires spare { 1 ≤ empty_pages pages.old.items }
@@ -157,7 +157,7 @@ fn add_in(pages: &mut Vec<Page>, added: Record)
 }
 
 /// Moves an empty page behind all others.
-fn move_behind(pages: &mut Vec<Page>, at: usize)
+fn move_behind(pages: &mut Vec<RecordPage>, at: usize)
     requires within { at < vec_len pages.old }
     requires empty { get_or pages.old.items at [] ≡ [] }
     ensures items { pages.new.items ≡ remove pages.old.items at ++ [] ∷ [] }
@@ -167,7 +167,7 @@ fn move_behind(pages: &mut Vec<Page>, at: usize)
     let _ = pages.push(emptied);
 }
 
-fn remove_in(pages: &mut Vec<Page>, num: u64)
+fn remove_in(pages: &mut Vec<RecordPage>, num: u64)
     requires order { IsAscending (records_in pages.old.items) }
     requires last { AreEmptyLast pages.old.items }
     ensures items { records_in pages.new.items
@@ -187,7 +187,7 @@ fn remove_in(pages: &mut Vec<Page>, num: u64)
 }
 
 /// Returns the number of empty pages.
-fn empty_in(pages: &[Page]) -> usize
+fn empty_in(pages: &[RecordPage]) -> usize
     ensures { result ≡ empty_pages pages.now }
 {
     let mut count = 0;
@@ -200,7 +200,7 @@ fn empty_in(pages: &[Page]) -> usize
 }
 
 /// Returns the weight of the pages. The room is 16 records for each empty page, less this weight.
-fn weight_of(pages: &[Page]) -> usize
+fn weight_of(pages: &[RecordPage]) -> usize
     requires { length pages.now ≤ 2 ^ 32 }
     ensures { result ≡ weight_in pages.now }
 {
@@ -226,7 +226,7 @@ fn pages_for(more: usize, weight: usize) -> usize
 }
 
 /// Returns the number of records.
-fn count_in(pages: &[Page]) -> usize
+fn count_in(pages: &[RecordPage]) -> usize
     requires { length pages.now ≤ 2 ^ 32 }
     ensures { result ≡ length (records_in pages.now) }
 {
@@ -237,7 +237,7 @@ fn count_in(pages: &[Page]) -> usize
     count
 }
 
-fn add_page(alloc: Global, pages: &mut Vec<Page>) -> Result<(), AllocError>
+fn add_page(alloc: Global, pages: &mut Vec<RecordPage>) -> Result<(), AllocError>
     requires few { vec_len pages.old ≤ 2 ^ 32 }
     ensures few { vec_len pages.new ≤ 2 ^ 32 }
     ensures ok { OnOk result (pages.new.items ≡ pages.old.items ++ [] ∷ []) }
@@ -246,14 +246,14 @@ fn add_page(alloc: Global, pages: &mut Vec<Page>) -> Result<(), AllocError>
     if pages.len() >= MAX_PAGES {
         return Err(AllocError);
     }
-    pages.push(Page::new(alloc)?)?;
+    pages.push(RecordPage::new(alloc)?)?;
     Ok(())
 }
 
 /// Returns the place of the page for one more record behind all others: the last page with records,
 /// or the place behind it if that page is full. The page may still have to be added. It doesn't
 /// search.
-fn last_seat(pages: &[Page]) -> usize
+fn last_seat(pages: &[RecordPage]) -> usize
     requires { AreEmptyLast pages.now }
     ensures { IsLastSeat result pages.now }
 {
@@ -273,7 +273,7 @@ fn last_seat(pages: &[Page]) -> usize
 
 /// Returns the place of the page for one more record behind all others, and adds that page if
 /// needed.
-fn make_last_seat(pages: &mut Vec<Page>) -> Result<usize, AllocError>
+fn make_last_seat(pages: &mut Vec<RecordPage>) -> Result<usize, AllocError>
     requires last { AreEmptyLast pages.old.items }
     requires few { vec_len pages.old ≤ 2 ^ 32 }
     ensures items { records_in pages.new.items ≡ records_in pages.old.items }
@@ -292,7 +292,7 @@ fn make_last_seat(pages: &mut Vec<Page>) -> Result<usize, AllocError>
 }
 
 /// Adds a record behind all others.
-fn push_in(pages: &mut Vec<Page>, added: Record) -> Result<(), AllocError>
+fn push_in(pages: &mut Vec<RecordPage>, added: Record) -> Result<(), AllocError>
     requires last { AreEmptyLast pages.old.items }
     requires few { vec_len pages.old ≤ 2 ^ 32 }
     ensures ok { OnOk result
@@ -308,7 +308,7 @@ fn push_in(pages: &mut Vec<Page>, added: Record) -> Result<(), AllocError>
 
 /// Adds this many empty pages.
 #[tactic(auto, using(crate::proofs::PageEdits::behind, crate::proofs::PageEdits::emptied_behind, crate::proofs::PageEdits::more_behind, crate::proofs::PageWeights::behind_weighs))]
-fn add_pages(pages: &mut Vec<Page>, more: usize) -> Result<(), AllocError>
+fn add_pages(pages: &mut Vec<RecordPage>, more: usize) -> Result<(), AllocError>
     requires last { AreEmptyLast pages.old.items }
     requires few { vec_len pages.old ≤ 2 ^ 32 }
     ensures items { records_in pages.new.items ≡ records_in pages.old.items }
@@ -326,7 +326,7 @@ fn add_pages(pages: &mut Vec<Page>, more: usize) -> Result<(), AllocError>
 }
 
 /// Frees the last page, which must be empty.
-fn drop_last(pages: &mut Vec<Page>)
+fn drop_last(pages: &mut Vec<RecordPage>)
     requires last { AreEmptyLast pages.old.items }
     requires empty { 1 ≤ empty_pages pages.old.items }
     ensures items { records_in pages.new.items ≡ records_in pages.old.items }
@@ -340,7 +340,7 @@ fn drop_last(pages: &mut Vec<Page>)
 }
 
 /// Frees all empty pages but one.
-fn keep_one(pages: &mut Vec<Page>)
+fn keep_one(pages: &mut Vec<RecordPage>)
     requires last { AreEmptyLast pages.old.items }
     ensures items { records_in pages.new.items ≡ records_in pages.old.items }
     ensures last { AreEmptyLast pages.new.items }
@@ -357,7 +357,7 @@ fn keep_one(pages: &mut Vec<Page>)
 #[derive(Drop)]
 pub struct Records<'a> {
     page: &'a [Record],
-    pages: &'a [Page],
+    pages: &'a [RecordPage],
 }
 
 impl<'a> Model for Records<'a> {
@@ -389,8 +389,8 @@ impl<'a> Iterator for Records<'a> {
 /// remains after it.
 fn first_of<'a>(
     page: &'a [Record],
-    pages: &'a [Page],
-) -> Option<(&'a Record, &'a [Record], &'a [Page])>
+    pages: &'a [RecordPage],
+) -> Option<(&'a Record, &'a [Record], &'a [RecordPage])>
     ensures { MatchOption result (page.now ++ records_in pages.now ≡ [])
         (λ r. page.now ++ records_in pages.now ≡ r.0.now ∷ (r.1.now ++ records_in r.2.now)) }
 {
@@ -405,14 +405,14 @@ fn first_of<'a>(
     Some((first, rest, pages))
 }
 
-fn pages_behind(pages: &[Page], at: usize) -> &[Page]
+fn pages_behind(pages: &[RecordPage], at: usize) -> &[RecordPage]
     requires { at < length pages.now }
     ensures { result.now ≡ drop (at + 1) pages.now }
 {
     &pages[at + 1..]
 }
 
-fn after_in(pages: &[Page], num: u64) -> Records<'_>
+fn after_in(pages: &[RecordPage], num: u64) -> Records<'_>
     requires order { IsAscending (records_in pages.now) }
     requires last { AreEmptyLast pages.now }
     ensures { result ≡ filter (λ r. nat_lt num r.num) (records_in pages.now) }
@@ -575,7 +575,7 @@ impl Clone for Pages {
 #[derive(Drop)]
 pub struct IntoRecords {
     page: vec::IntoIter<Record>,
-    pages: vec::IntoIter<Page>,
+    pages: vec::IntoIter<RecordPage>,
 }
 
 impl Model for IntoRecords {
@@ -588,7 +588,10 @@ impl Model for IntoRecords {
     ghost view = { λ r. r.page.rest.items ++ records_in r.pages.rest.items };
 }
 
-fn first_taken(page: &mut vec::IntoIter<Record>, pages: &mut vec::IntoIter<Page>) -> Option<Record>
+fn first_taken(
+    page: &mut vec::IntoIter<Record>,
+    pages: &mut vec::IntoIter<RecordPage>,
+) -> Option<Record>
     ensures { MatchOption result
         ((page.old.rest.items ++ records_in pages.old.rest.items ≡ [])
         × (page.new.rest.items ++ records_in pages.new.rest.items ≡ []))

@@ -1,5 +1,5 @@
 use Rattle.std.proofs.Common.{◌≡◌, ◌++◌, drop}
-use Rattle.state_forest.proofs.page.PageClone.clone.Given as goal
+use Rattle.state_forest.proofs.page.RecordPageClone.clone.Given as goal
 
 -- those so far, and those that are left
 abbrev pub invariant-loop-record : goal.invariant-loop-record
