@@ -16,7 +16,7 @@ from tools import repo
 PAGE = "docs/THEOREMS.md"
 CALL = "crates/script_world/src/world.rt", "step", "headline"
 # The types of that call: what it is called on, takes and answers.
-TYPES = "World", "Event", "Reply"
+TYPES = "World", "Event", "EventReply"
 # The libraries that are read, in reading order.
 CRATES = ["state_ids", "state_facts", "state_forest", "theory_history", "state_stamps", "state_replica", "wire_frames",
           "wire_pulls", "wire_callbacks", "script_world", "theory_progress", "state_journal", "state_book", "theory_trail"]
@@ -71,7 +71,7 @@ def source(path: str) -> Iterator[str]:
 def imports(path: str) -> dict[str, Place]:
     """Each name that a file imports from a specs file: where it stands."""
     found = {}
-    for crate, module, names in re.findall(r"use Rattle\.(lra_\w+)\.specs\.([A-Z]\w*)\.\{([^}]*)\}", repo.read(path)):
+    for crate, module, names in re.findall(r"use Rattle\.([a-z]+_[a-z]+)\.specs\.([A-Z]\w*)\.\{([^}]*)\}", repo.read(path)):
         for name in names.split(","):
             there, _, here = name.strip().partition(" as ")
             found[here or there] = f"crates/{crate}/specs/{module}.antt", there
@@ -170,7 +170,7 @@ def types_named(path: str, text: str, all_types: Types) -> list[Place]:
     """The types of the libraries that a text of a file names: its own crate's, and those that it imports."""
     crate = path.split("/")[1]
     known = {name: (own, name) for own, name in all_types if own == crate}
-    for own, names in re.findall(r"^use (lra_\w+)::(?:\w+::)*\{?([\w, \n]+)", repo.read(path), re.M):
+    for own, names in re.findall(r"^use ([a-z]+_[a-z]+)::(?:\w+::)*\{?([\w, \n]+)", repo.read(path), re.M):
         known.update({name.strip(): (own, name.strip()) for name in names.split(",")})
     return [known[name] for name in set(re.findall(r"\w+", text)) if known.get(name) in all_types]
 
@@ -178,7 +178,7 @@ def types_named(path: str, text: str, all_types: Types) -> list[Place]:
 def declared(path: str, lines: Lines) -> Iterator[Place]:
     """The types that a definition names, by the imports of its file."""
     words = set(re.findall(NAME, "\n".join(lines)))
-    imported = re.findall(r"use Rattle\.(lra_\w+)\.specs\.declared\.([\w.]+)\.\{([^}]*)\}", repo.read(path))
+    imported = re.findall(r"use Rattle\.([a-z]+_[a-z]+)\.specs\.declared\.([\w.]+)\.\{([^}]*)\}", repo.read(path))
     for crate, module, names in imported:
         here = {name.strip().split(" as ")[-1] for name in names.split(",")}
         if here & words:

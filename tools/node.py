@@ -295,7 +295,7 @@ class Group(Nodes):
 
     def lines(self, number: int) -> list[str]:
         """What a node told, without the level and the place of the code."""
-        return [re.sub(r"^\[WARN +lra_\w+(?:::\w+)+\] ", "", line) for line in self.log(number).splitlines()]
+        return [re.sub(r"^\[WARN +\w+(?:::\w+)+\] ", "", line) for line in self.log(number).splitlines()]
 
     def kill(self, *numbers: int) -> None:
         for number in numbers:

@@ -203,6 +203,9 @@ def stands_alone(text: str, at: int, name: str) -> bool:
         tops = re.findall(r"^[a-z#/}].*$", text[:at], re.M)
         if tops and re.match(r"(pub(\(\w+\))? )?enum ", tops[-1]):
             return False
+    comment = re.match(r"\s*(//|--)", line)
+    if comment and text.count("`", text.rfind("\n", 0, at) + 1, at) % 2 == 0:
+        return False
     path = re.search(r"([\w:]+)::$", before)
     if path:
         head = path[1].split("::")

@@ -79,7 +79,7 @@ fn member_words(has_old_name: bool, words: &[String]) -> Option<&[String]>
 enum Job {
     /// A server of so many nodes, of which the first listens at this port.
     Server { nodes: u8, port: u16 },
-    Members(Members),
+    Members(LocalMembers),
 }
 
 impl Job {

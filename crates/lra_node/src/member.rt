@@ -1,4 +1,4 @@
-// LocalMembers of a group: one node, or some, whose other nodes run in processes of their own.
+// Members of a group: one node, or some, whose other nodes run in processes of their own.
 
 ghost use Rattle.state_ids.specs.declared.TheConstants.{MAX_NODES};
 ghost use Rattle.node_worker.specs.Groups.{is_group_name};

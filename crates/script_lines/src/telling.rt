@@ -1,4 +1,4 @@
-// The lines that replies to events print. ReservedText for a line is made before its event.
+// The lines that replies to events print. Room for a line is made before its event.
 ghost use Rattle.std.specs.Prelude.{◌≡◌, ◌≤◌, ◌+◌, ◌++◌, [], ◌∷◌, length, codes, IfOk, OnErr, string_bytes};
 ghost use Rattle.std.specs.Fmt.{decimal};
 ghost use Rattle.state_ids.specs.Ids.{id_text};
