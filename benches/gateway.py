@@ -1,6 +1,6 @@
 #!/usr/bin/env python3
 """Measures what the gateway adds to each call of a service: python3 benches/gateway.py. One client asks a node, and
-then the same by a gateway beside it, over crates/lra_member/out/lra_member and crates/lra_gateway/out/lra_gateway. A
+then the same by a gateway beside it, over crates/lra_node/out/lra_node and crates/lra_gateway/out/lra_gateway. A
 minute; standard library alone."""
 import contextlib
 import os

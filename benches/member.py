@@ -1,7 +1,7 @@
 #!/usr/bin/env python3
 """Measures members in processes of their own: python3 benches/member.py [PROGRAM]. How soon what one begins is shown by
 another, how many LRAs go through one home a second with keep=0, and what copies=K costs of three members. PROGRAM is
-crates/lra_member/out/lra_member. Two minutes; standard library alone."""
+crates/lra_node/out/lra_node. Two minutes; standard library alone."""
 import multiprocessing
 import os
 import statistics
@@ -89,7 +89,7 @@ def copying(copies: int) -> None:
 
 def main() -> int:
     if len(sys.argv) > 1:
-        Group.program = unproved.program_of(sys.argv[1], "lra_member")
+        Group.program = unproved.program_of(sys.argv[1])
     checks.need(Group)
     with tempfile.TemporaryDirectory() as folder, Group(2, folder) as group:
         news(group.start())

@@ -102,13 +102,13 @@ def wrong_count(options: Collection[str], words: list[str]) -> str | None:
 
 
 def program_for(nodes: str, port: str, folder: str, times: Times, operate: str | None) -> tuple[str, list[str]]:
-    """The program that runs such nodes, and its words: lra_node, or where roots are to be purged or operators to be
-    heard lra_member, with all in one process."""
+    """The program that runs such nodes, and its words: a server; or, if roots are to be purged or operators served,
+    members that all run in one process."""
     if not times and operate is None:
         return "lra_node", ["serve", nodes, port, folder]
     options = [] if operate is None else [f"operate=127.0.0.1:{operate}"]
     options += [f"{option.removeprefix('--')}={word}" for option, word in times]
-    return "lra_member", [f"1-{nodes}", folder, *options, *(f"127.0.0.1:{number}" for number in ports_of(nodes, port))]
+    return "lra_node", ["member", f"1-{nodes}", folder, *options, *(f"127.0.0.1:{number}" for number in ports_of(nodes, port))]
 
 
 def tell_when_up(server: subprocess.Popen, ports: Sequence[int], for_operators: Sequence[int] = ()) -> None:

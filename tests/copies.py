@@ -2,7 +2,7 @@
 """Tests members that answer only what others have stored, and whose machine is lost for good, disk and all:
 python3 tests/copies.py [PROGRAM] [--rounds N] [--patience MS] [--copies K] [TEST..].
 
-PROGRAM is crates/lra_member/out/lra_member, or --unproved (tools/unproved.py). A TEST is one of lost, decided, heard,
+PROGRAM is crates/lra_node/out/lra_node, or --unproved (tools/unproved.py). A TEST is one of lost, decided, heard,
 back, crowded, parted, slow, full, old, behind, restarted, forged, stranger, late, strict, anew, twice and alone;
 without one it does all, some ten minutes. In lost one of three nodes is killed with kill -9 amid a load, its folder is
 emptied, and a member of its number starts anew: N times (3 by default), each node in turn, with copies=0, 1 and 2, or
@@ -813,7 +813,7 @@ def main() -> int:
     words = checks.words_of(TestCopies)
     for word in given:
         if word not in words:
-            Group.program = unproved.program_of(word, "lra_member")
+            Group.program = unproved.program_of(word)
     checks.need(Group)
     return checks.run(TestCopies, words=[word for word in given if word in words])
 

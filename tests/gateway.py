@@ -2,7 +2,7 @@
 """Tests the gateway as services with LRA annotations meet it: python3 tests/gateway.py [PROGRAM [MEMBER]] [TEST..].
 
 It starts three nodes, a gateway before them, and services that send what Narayana's client sends (tools/narayana.py).
-PROGRAM is the gateway, crates/lra_gateway/out/lra_gateway, and MEMBER a node, crates/lra_member/out/lra_member;
+PROGRAM is the gateway, crates/lra_gateway/out/lra_gateway, and MEMBER a node, crates/lra_node/out/lra_node;
 --unproved stands for either, and alone for both, as tools/unproved.py compiles them. Without a TEST it does all, some
 two minutes. Each check prints a line; the status is 1 where one fails. Standard library alone."""
 import concurrent.futures
@@ -1165,7 +1165,7 @@ class TestGateway(checks.Checked):
 def started_by_page(folder: str, node: int, door: int, listen: int, calls: int) -> str:
     """The lines of docs/GATEWAY.md that start a node and a gateway, with this folder and these ports."""
     lines = repo.found(r"\n## Start it\n(?:.*\n)*?\n((?:    .*\n)+)", repo.read("docs/GATEWAY.md"))[1]
-    for old, new in (("lra_member", Group.program), ("lra_gateway", Gateway.program), ("/var/lib/lra", folder),
+    for old, new in (("lra_node", Group.program), ("lra_gateway", Gateway.program), ("/var/lib/lra", folder),
                      (":8170", f":{door}"), ("/8170", f"/{door}"), (":8070", f":{node}"),
                      ("calls=8071", f"calls={calls}"), ("//lra:8080", f"//{HOST}:{listen}"), (":8080", f":{listen}")):
         if old not in lines:
@@ -1214,7 +1214,7 @@ def main() -> int:
     given, words = sys.argv[1:], checks.words_of(TestGateway)
     programs = list(itertools.takewhile(lambda word: word not in words, given))
     both = programs * 2 if programs == ["--unproved"] else programs
-    for kind, name, word in zip((Gateway, Group), ("lra_gateway", "lra_member"), both):
+    for kind, name, word in zip((Gateway, Group), ("lra_gateway", "lra_node"), both):
         kind.program = unproved.program_of(word, name)
     checks.need(Group, Gateway)
     return checks.run(TestGateway, words=given[len(programs):])

@@ -4,7 +4,7 @@
 A member starts over an older copy of its journal, beside others that start late, behind a slow line or a line that
 loses the first tries; a journal's file goes away, or an older one comes in its place; a disk hangs; clients read
 nothing, send slowly, or say nothing; hosts of participants hang; a name has an address that is silent; addresses lead
-to the wrong node. PROGRAM is crates/lra_member/out/lra_member, or --unproved (tools/unproved.py). In restored members
+to the wrong node. PROGRAM is crates/lra_node/out/lra_node, or --unproved (tools/unproved.py). In restored members
 start N times, 10 by default. Each check prints a line; the status is 1 where one fails. Standard library alone, some
 three minutes; a compiler for C is wanted for hangs, and root for names: without them these are skipped."""
 import contextlib
@@ -526,7 +526,7 @@ class TestLuck(checks.Checked):
         with open(hosts, "w", encoding="utf-8") as file:
             file.write("127.0.0.1 localhost\n127.0.0.2 twofold\n127.0.0.1 twofold\n")
         port = free_row(1)[0]
-        script = f"mount --bind {hosts} /etc/hosts && exec {Group.program} 1 {self.folder} {HOST}:{port}"
+        script = f"mount --bind {hosts} /etc/hosts && exec {Group.program} member 1 {self.folder} {HOST}:{port}"
         process = subprocess.Popen(["unshare", "-m", "sh", "-c", script], stdin=subprocess.PIPE,
                                    stderr=subprocess.PIPE)
         self.addCleanup(process.kill)
@@ -814,7 +814,7 @@ def main() -> int:
     words = checks.words_of(TestLuck)
     for word in given:
         if word not in words:
-            Group.program = unproved.program_of(word, "lra_member")
+            Group.program = unproved.program_of(word)
     checks.need(Group)
     return checks.run(TestLuck, words=[word for word in given if word in words])
 

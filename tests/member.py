@@ -2,7 +2,7 @@
 """Tests members of a group, as who runs them meets them: python3 tests/member.py [PROGRAM] [--kills N] [--lras N]
 [TEST..].
 
-PROGRAM is crates/lra_member/out/lra_member, or --unproved (tools/unproved.py). A TEST is one of version, words, three,
+PROGRAM is crates/lra_node/out/lra_node, or --unproved (tools/unproved.py). A TEST is one of version, words, three,
 some, older, strange, kills, swept, flow, full, misspelt, moved, apart and elsewhere; without one it does all, some two
 minutes. In kills a node, or all, is killed with kill -9 N times, 10 by default; --lras N says how many go through a
 home in flow, 2,000 by default. misspelt and moved need lra_node too, apart and elsewhere root, and all are skipped
@@ -29,8 +29,8 @@ from tools.participant import Participant
 from tools.ports import HOST, free_row, is_open, listening
 from tools.version import build_said
 
-USAGE = b"usage: lra_member I|I-J DIR [listen=IP:PORT] [operate=IP:PORT] [names=NAME,..] [keep=MS] [keep-failed=MS] " \
-        b"[group=NAME] [copies=K] [patience=MS] [strict] [anew] HOST:PORT.. | --version\n"
+USAGE = b"usage: lra_node member I|I-J DIR [listen=IP:PORT] [operate=IP:PORT] [names=NAME,..] [keep=MS] [keep-failed=MS] " \
+        b"[group=NAME] [copies=K] [patience=MS] [strict] [anew] HOST:PORT.. | lra_node member --version\n"
 NO_FOLDER = b"node 2: can't open its journal: the folder is missing, permission is denied, or no file descriptor is left\n" \
             b"journal 2\n"
 # LRAs with their statuses.
@@ -292,12 +292,12 @@ class TestMembers(checks.Checked):
             self.check(f"a folder that isn't there: {' '.join(given)}", (ran.returncode, ran.stderr) == (1, NO_FOLDER),
                        ran)
         # The words of the page are taken: there is only no such folder.
-        lines = re.findall(r"^    lra_member (.*)$", repo.read("docs/OPERATING.md"), re.M)
+        lines = re.findall(r"^    lra_node member (.*)$", repo.read("docs/OPERATING.md"), re.M)
         self.check("the page has three commands", len(lines) == 3, lines)
         for line in lines:
             ran = self.run_with(*line.replace("/var/lib/lra", f"{self.folder}/none").split())
             is_so = ran.returncode == 1 and b"the folder is missing" in ran.stderr
-            self.check(f"OPERATING: lra_member {line}", is_so, ran)
+            self.check(f"OPERATING: lra_node member {line}", is_so, ran)
         every = ["keep=0", "keep-failed=18446744073709551615"]
         with self.node("1", self.folder, f"listen=0.0.0.0:{third}", *every, f"elsewhere:{fourth}") as node:
             self.check("it listens where it is told to", comes_to(SLOW, lambda: is_open(third)) and not is_open(fourth))
@@ -311,16 +311,22 @@ class TestMembers(checks.Checked):
     def test_version(self) -> None:
         """Which build it says that it is."""
         ran = self.run_with("--version")
-        wanted = 0, build_said().line("lra_member").encode(), b""
+        wanted = 0, build_said().line("lra_node").encode(), b""
         self.check("the version", (ran.returncode, ran.stdout, ran.stderr) == wanted, ran)
+        # (an unproved program is run by a script, which has no other name)
+        if "unproved" not in Group.program:
+            old = f"{self.folder}/lra_member"
+            os.symlink(os.path.abspath(Group.program), old)
+            ran = subprocess.run([old, "--version"], stdin=subprocess.DEVNULL, capture_output=True)
+            self.check("a link of its old name runs members", (ran.returncode, ran.stdout, ran.stderr) == wanted, ran)
 
     def run_with(self, *words: str) -> subprocess.CompletedProcess:
         """What comes of words with which it ends."""
-        return subprocess.run([Group.program, *words], stdin=subprocess.DEVNULL, capture_output=True)
+        return subprocess.run([Group.program, "member", *words], stdin=subprocess.DEVNULL, capture_output=True)
 
     def node(self, *words: str) -> subprocess.Popen:
         """A member that runs, until its input ends."""
-        return subprocess.Popen([Group.program, *words], stdin=subprocess.PIPE)
+        return subprocess.Popen([Group.program, "member", *words], stdin=subprocess.PIPE)
 
     def test_three(self) -> None:
         """News, reports at each node, a node that is down for a while, and what is told of it."""
@@ -811,7 +817,7 @@ def main() -> int:
     words = checks.words_of(TestMembers)
     for word in given:
         if word not in words:
-            Group.program = unproved.program_of(word, "lra_member")
+            Group.program = unproved.program_of(word)
             if word == "--unproved":
                 Server.program = unproved.program_of(word)
     checks.need(Group)

@@ -1,7 +1,7 @@
 #!/usr/bin/env python3
 """Tests the operator's port, as who is on call meets it: python3 tests/operate.py [PROGRAM] [TEST..].
 
-PROGRAM is crates/lra_member/out/lra_member, or --unproved (tools/unproved.py). A TEST is one of paths, records, stuck,
+PROGRAM is crates/lra_node/out/lra_node, or --unproved (tools/unproved.py). A TEST is one of paths, records, stuck,
 dead, page, metrics, states, ready, early, disk, slow, long, silent, files and cost; without one it does all, some four
 minutes. Each check prints a line; the status is 1 where one fails. Standard library alone."""
 import json
@@ -561,7 +561,7 @@ class TestOperators(checks.Checked):
 def main() -> int:
     given, words = sys.argv[1:], checks.words_of(TestOperators)
     if given and given[0] not in words:
-        Group.program, given = unproved.program_of(given[0], "lra_member"), given[1:]
+        Group.program, given = unproved.program_of(given[0]), given[1:]
     checks.need(Group)
     return checks.run(TestOperators, words=given)
 

@@ -246,11 +246,11 @@ def said_words() -> Iterator[tuple[str, list[str]]]:
     compose = repo.read("deploy/compose.yaml")
     for line in re.findall(r"command: >-\n\s+(lra_.*\n.*)\n", compose):
         yield "compose.yaml", line.split()
-    lines = repo.found(r"exec (lra_member .*?)\n +ports:", repo.read("deploy/kubernetes.yaml"), re.S)[1].split()
+    lines = repo.found(r"exec (lra_node member .*?)\n +ports:", repo.read("deploy/kubernetes.yaml"), re.S)[1].split()
     pod = {**QUIET, "HOSTNAME": "lra-1", "POD_IP": "10.0.0.1"}
     yield "kubernetes.yaml", run_lines(["sh", "-c", f"echo {' '.join(lines)}"], env=pod)[1].split()
     image = repo.read("deploy/Containerfile")
-    yield "Containerfile", json.loads(repo.found(r"CMD (\[\"lra_member.*\])", image)[1])
+    yield "Containerfile", json.loads(repo.found(r"CMD (\[\"lra_node\", \"member.*\])", image)[1])
 
 
 class TestSystemd(checks.Checked):
@@ -472,7 +472,7 @@ class TestRelease(checks.Checked):
         self.refused("here is rattle-kit-2", KIT_NAME="rattle-kit-2")
         self.refused("'99 passed, 1 failed'", GATE="99 passed, 1 failed")
         self.refused("'3 passed, 0 failed'", GATE="3 passed, 0 failed")
-        self.refused("lra_member isn't of")
+        self.refused("lra_node isn't of")
         self.told_commit()
         self.refused("the tree isn't the commit's", MEANWHILE=f"{self.copy}/docs/NEW.md")
         os.remove(f"{self.copy}/docs/NEW.md")

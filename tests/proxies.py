@@ -3,7 +3,7 @@
 certificates on both sides, and one name for three nodes, also by deploy/lra.conf.template: python3 tests/proxies.py
 [PROGRAM]. The certificates are made here, by openssl; the proxies are nginx. Without these two it is skipped.
 
-PROGRAM is crates/lra_member/out/lra_member, or --unproved (tools/unproved.py). Each check prints a line; the status is
+PROGRAM is crates/lra_node/out/lra_node, or --unproved (tools/unproved.py). Each check prints a line; the status is
 1 where one fails."""
 import http.client
 import os
@@ -342,7 +342,7 @@ class TestProxies(checks.Checked):
 
 def main() -> int:
     if len(sys.argv) > 1:
-        Group.program = unproved.program_of(sys.argv[1], "lra_member")
+        Group.program = unproved.program_of(sys.argv[1])
     if HAS_BOTH:
         checks.need(Group)
     return checks.run(TestProxies)

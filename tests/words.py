@@ -189,7 +189,7 @@ class TestWords(checks.Checked):
         repo.write(f"{self.folder}/crates.txt", listed)
         below = repo.below("lra_node", repo.crates(self.folder))
         self.check("crates come as they are built", below == ["lra_lowest", "lra_low"], below)
-        usage, other, refused = "usage: lra_node script N", "usage: lra_member I", "error: not proved"
+        usage, other, refused = "usage: lra_node script N", "usage: lra_node member I", "error: not proved"
         for last, fails, shown in ((usage, "none", ""), (other, "none", other), (usage, "lra_low", refused)):
             self.write_rt(BUILD.format(last=last, fails=fails))
             ended, errors = self.proved_quickly()
@@ -218,9 +218,9 @@ class TestWords(checks.Checked):
         return ran.returncode, printed, ran.stderr.split("\n")[-2:][0]
 
     def copy(self) -> None:
-        """A copy of ./coordinator, of what it needs, and of its programs' first files."""
+        """A copy of ./coordinator, of what it needs, and of its program's first file."""
         files = ["coordinator", "demo/start.py", "crates.txt", *repo.files("tools/*.py")]
-        for file in [*files, *(f"crates/{name}/src/main.rt" for name in ("lra_node", "lra_member"))]:
+        for file in [*files, "crates/lra_node/src/main.rt"]:
             os.makedirs(os.path.dirname(f"{self.folder}/{file}"), exist_ok=True)
             shutil.copy(f"{TOP}/{file}", f"{self.folder}/{file}")
         for name in repo.crates():
@@ -235,11 +235,11 @@ class TestWords(checks.Checked):
         operate, at = ("--operate", operators), f"operate=127.0.0.1:{operators}"
         ways = [
             ((), "lra_node serve 2 PORT DIR"),
-            (ended, f"lra_member 1-2 DIR keep=5 {addresses}"),
-            (failed, f"lra_member 1-2 DIR keep-failed=7 {addresses}"),
-            ((*failed, *ended), f"lra_member 1-2 DIR keep=5 keep-failed=7 {addresses}"),
-            (operate, f"lra_member 1-2 DIR {at} {addresses}"),
-            ((*failed, *operate, *ended), f"lra_member 1-2 DIR {at} keep=5 keep-failed=7 {addresses}"),
+            (ended, f"lra_node member 1-2 DIR keep=5 {addresses}"),
+            (failed, f"lra_node member 1-2 DIR keep-failed=7 {addresses}"),
+            ((*failed, *ended), f"lra_node member 1-2 DIR keep=5 keep-failed=7 {addresses}"),
+            (operate, f"lra_node member 1-2 DIR {at} {addresses}"),
+            ((*failed, *operate, *ended), f"lra_node member 1-2 DIR {at} keep=5 keep-failed=7 {addresses}"),
         ]
         for options, line in ways:
             self.write_rt(BUILD_ANOTHER)

@@ -244,7 +244,7 @@ class Server(Nodes):
 class Group(Nodes):
     """Members: nodes in processes of their own, each over a folder of its own."""
 
-    program = repo.program("lra_member")
+    program = repo.program("lra_node")
     again = ("E19", "E20", "E21")
 
     def __init__(self, count: int, folder: str, *options: str) -> None:
@@ -269,7 +269,7 @@ class Group(Nodes):
         """Starts a process, for one node or for those that a word names, and doesn't wait for it. As for Python itself
         a write beyond a limit on files is an error there, and no end."""
         given = self.options if options is None else options
-        words = [self.program, word or str(number), f"{self.folder}/{number}", *given, *self.addresses_for(number)]
+        words = [self.program, "member", word or str(number), f"{self.folder}/{number}", *given, *self.addresses_for(number)]
         with open(f"{self.folder}/{number}.log", "ab") as log:
             self.processes[number] = subprocess.Popen(words, stdin=subprocess.PIPE, stderr=log, restore_signals=False)
 

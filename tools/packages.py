@@ -14,7 +14,9 @@ from tools import repo
 from tools.repo import TOP
 
 NAME = "lra-coordinator"
-PROGRAMS = ("lra_node", "lra_member", "lra_gateway")
+PROGRAMS = ("lra_node", "lra_gateway")
+# Names that programs had before, each with the program that it leads to.
+OLD_NAMES = {"lra_member": "lra_node"}
 # What a package holds beside the programs, by patterns of paths from the top.
 PAGES = ("README.md", "CHANGELOG.md", "CONTRIBUTING.md", "LICENSE", "docs/*.md", "docs/*.json", "benches/README.md",
          "benches/figures.svg", "demo/README.md", "demo/alerts.yaml", "demo/grafana.json", "demo/[Pp]articipant.*",
@@ -24,8 +26,7 @@ DEPLOYED = ("deploy/Containerfile", "deploy/compose.yaml", "deploy/kubernetes.ya
 UNITS = ("lra-node.service", "lra-member@.service", "lra-gateway.service")
 # What each program is for, in its page of the manual, and the page that tells more.
 MANUAL = {
-    "lra_node": ("nodes of an LRA coordinator in one process", "OPERATING"),
-    "lra_member": ("a node of an LRA coordinator on its own machine", "OPERATING"),
+    "lra_node": ("nodes of an LRA coordinator", "OPERATING"),
     "lra_gateway": ("a gateway to LRA coordinators for services with LRA annotations", "GATEWAY"),
 }
 DOCS = f"usr/share/doc/{NAME}"
@@ -34,10 +35,11 @@ LIBRARIES = {"libc.so.6": "libc6", "libm.so.6": "libc6", "libgcc_s.so.1": "libgc
 
 
 class Member(typing.NamedTuple):
-    """A file of a package: what it holds, and who may do what with it."""
+    """A file of a package: what it holds, and who may do what with it; or a link to another file beside it."""
 
     data: bytes
     mode: int = 0o644
+    link: str = ""
 
 
 # The files of a package, by their paths there.
@@ -72,6 +74,8 @@ def found_by(pattern: str) -> list[str]:
 def put(path: str, member: Member) -> None:
     """Writes a file of a package, with its folders."""
     os.makedirs(os.path.dirname(path), exist_ok=True)
+    if member.link:
+        return os.symlink(member.link, path)
     with open(path, "wb") as file:
         file.write(member.data)
     os.chmod(path, member.mode)
@@ -93,11 +97,11 @@ def told_by(tool: str, words: list[str], data: bytes) -> str:
         return subprocess.run([tool, *words, file.name], stdout=subprocess.PIPE, check=True, text=True).stdout
 
 
-def usage_of(data: bytes) -> str:
-    """What a program says where it has no words."""
+def usage_of(data: bytes, *words: str) -> str:
+    """The usage that a program prints if it doesn't take its words."""
     with tempfile.TemporaryDirectory() as folder:
         put(f"{folder}/program", Member(data, 0o755))
-        said = subprocess.run([f"{folder}/program"], stdin=subprocess.DEVNULL, stderr=subprocess.PIPE, text=True)
+        said = subprocess.run([f"{folder}/program", *words], stdin=subprocess.DEVNULL, stderr=subprocess.PIPE, text=True)
     if said.returncode != 2 or not said.stderr.startswith("usage: "):
         raise SystemExit(f"release: a program ends with {said.returncode} in place of its usage: {said.stderr!r}")
     return said.stderr.removeprefix("usage: ").strip()
@@ -106,7 +110,9 @@ def usage_of(data: bytes) -> str:
 def manual(name: str, release: Release) -> bytes:
     """A program's page of the manual, of its own usage."""
     what, page = MANUAL[name]
-    lines = [line.strip().replace("-", "\\-") for line in usage_of(release.programs[name]).splitlines()]
+    data = release.programs[name]
+    usages = [usage_of(data), *([usage_of(data, "member")] if name == "lra_node" else [])]
+    lines = [line.strip().replace("-", "\\-") for usage in usages for line in usage.splitlines()]
     usage = "\n.br\n".join(lines)
     return f"""\
 .TH {name.upper()} 1 "" "{NAME} {release.version}"
@@ -116,9 +122,9 @@ def manual(name: str, release: Release) -> bytes:
 .ad l
 {usage}
 .SH DESCRIPTION
-The file /{DOCS}/docs/{page}.md has each word, and all that it does.
-It ends with 0 where standard input has ended, with 1 where it can't begin, as for a port that is in use, and with 2
-where it doesn't take its words.
+The file /{DOCS}/docs/{page}.md has each word, and all that the program does.
+The status is 0 once standard input has ended, 1 if the program can't begin, for example because a port is in use, and 2
+if it doesn't take its words.
 """.encode()
 
 
@@ -133,6 +139,7 @@ def archive(release: Release) -> Files:
     """The files of the archive."""
     made = common(release)
     made |= {f"bin/{name}": Member(data, 0o755) for name, data in release.programs.items()}
+    made |= {f"bin/{name}": Member(b"", link=program) for name, program in OLD_NAMES.items()}
     for path in repo.files("deploy/conf/*"):
         made[path] = Member(bytes_at(path))
     for path in repo.files("deploy/container/*"):
@@ -144,6 +151,7 @@ def debian(release: Release) -> Files:
     """The files that the package for Debian puts into a system."""
     made = {f"{DOCS}/{path}": member for path, member in common(release).items() if path != "LICENSE"}
     made |= {f"usr/bin/{name}": Member(data, 0o755) for name, data in release.programs.items()}
+    made |= {f"usr/bin/{name}": Member(b"", link=program) for name, program in OLD_NAMES.items()}
     made |= {f"lib/systemd/system/{name}": Member(bytes_at(f"deploy/systemd/{name}")) for name in UNITS}
     for path in repo.files("deploy/conf/*"):
         made[f"etc/lra/{os.path.basename(path)}"] = Member(bytes_at(path))
@@ -152,6 +160,8 @@ def debian(release: Release) -> Files:
         made[f"usr/libexec/{NAME}/{os.path.basename(path)}"] = Member(bytes_at(path), 0o755)
     for name in release.programs:
         made[f"usr/share/man/man1/{name}.1.gz"] = Member(squeezed(manual(name, release)))
+    for name, program in OLD_NAMES.items():
+        made[f"usr/share/man/man1/{name}.1.gz"] = Member(b"", link=f"{program}.1.gz")
     made[f"{DOCS}/copyright"] = Member(bytes_at("deploy/debian/copyright"))
     made[f"{DOCS}/changelog.gz"] = Member(squeezed(changes(release)))
     made[f"usr/share/lintian/overrides/{NAME}"] = Member(bytes_at("deploy/debian/overrides"))
@@ -196,6 +206,9 @@ def write_archive(path: str, files: Files, top: str, release: Release) -> None:
             if name in folders or member is None:
                 entry.type, entry.mode = tarfile.DIRTYPE, 0o755
                 tar.addfile(entry)
+            elif member.link:
+                entry.type, entry.linkname, entry.mode = tarfile.SYMTYPE, member.link, 0o777
+                tar.addfile(entry)
             else:
                 entry.mode, entry.size = member.mode, len(member.data)
                 tar.addfile(entry, io.BytesIO(member.data))
@@ -218,7 +231,7 @@ def control(release: Release, files: Files) -> Files:
     values = {"VERSION": release.version, "SIZE": str(size), "LIBRARIES": needs(release.programs.values())}
     for name, value in values.items():
         text = text.replace(f"@{name}@", value)
-    sums = "".join(f"{hashlib.md5(member.data).hexdigest()}  {path}\n" for path, member in sorted(files.items()))
+    sums = "".join(f"{hashlib.md5(member.data).hexdigest()}  {path}\n" for path, member in sorted(files.items()) if not member.link)
     made = {"control": Member(text.encode()), "md5sums": Member(sums.encode())}
     for name in ("conffiles", "templates"):
         made[name] = Member(bytes_at(f"deploy/debian/{name}"))
@@ -237,7 +250,7 @@ def write_debian(path: str, release: Release) -> None:
         for root, _, names in os.walk(folder, topdown=False):
             os.chmod(root, 0o755)
             for each in (*(f"{root}/{name}" for name in names), root):
-                os.utime(each, (release.time, release.time))
+                os.utime(each, (release.time, release.time), follow_symlinks=False)
         # (xz in one thread, since more write other bytes)
         words = ["--root-owner-group", "-Zxz", f"-z{release.level}", "--threads-max=1", "--build", folder, path]
         subprocess.run(["dpkg-deb", *words], check=True, stdout=subprocess.DEVNULL,

@@ -30,7 +30,7 @@ from tools.version import Build, build_said
 
 PASSED = r"(\d+) passed, 0 failed"
 # The programs that say which commit they are of.
-TELLING = ("lra_member", "lra_gateway")
+TELLING = ("lra_node", "lra_gateway")
 NO_TEXT = "The kit has no licence text of its own for these of its parts:"
 
 
