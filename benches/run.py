@@ -31,8 +31,8 @@ sys.path.insert(0, os.path.dirname(os.path.dirname(os.path.abspath(__file__))))
 from tools import prover, repo
 from tools.repo import TOP
 
-REPLICAS = ("state_ids", "state_facts", "state_forest", "theory_history", "state_replica", "wire_frames", "script_world",
-            "wire_http", "wire_callbacks")
+REPLICAS = ("state_ids", "state_facts", "state_forest", "theory_history", "state_replica", "wire_frames",
+            "script_world", "wire_http", "wire_callbacks")
 # The libraries of each program.
 USES = {
     **dict.fromkeys(("status", "pages", "prepare", "duties", "merge", "frame", "news"), REPLICAS),
@@ -40,7 +40,8 @@ USES = {
     "world": REPLICAS,
     "http": ("wire_http", "httparse"),
     "api": ("state_ids", "wire_http", "state_book", "wire_api", "httparse", "sqlite"),
-    "journal": ("state_ids", "state_facts", "theory_history", "state_replica", "wire_frames", "state_journal", "sqlite"),
+    "journal": ("state_ids", "state_facts", "theory_history", "state_replica", "wire_frames", "state_journal",
+                "sqlite"),
 }
 AT_ONCE = max((os.cpu_count() or 1) - 1, 1)
 

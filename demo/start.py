@@ -108,7 +108,8 @@ def program_for(nodes: str, port: str, folder: str, times: Times, operate: str |
         return "lra_node", ["serve", nodes, port, folder]
     options = [] if operate is None else [f"operate=127.0.0.1:{operate}"]
     options += [f"{option.removeprefix('--')}={word}" for option, word in times]
-    return "lra_node", ["member", f"1-{nodes}", folder, *options, *(f"127.0.0.1:{number}" for number in ports_of(nodes, port))]
+    addresses = [f"127.0.0.1:{number}" for number in ports_of(nodes, port)]
+    return "lra_node", ["member", f"1-{nodes}", folder, *options, *addresses]
 
 
 def tell_when_up(server: subprocess.Popen, ports: Sequence[int], for_operators: Sequence[int] = ()) -> None:

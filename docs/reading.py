@@ -19,7 +19,8 @@ CALL = "crates/script_world/src/world.rt", "step", "headline"
 TYPES = "World", "Event", "EventReply"
 # The libraries that are read, in reading order.
 CRATES = ["state_ids", "state_facts", "state_forest", "theory_history", "state_stamps", "state_replica", "wire_frames",
-          "wire_pulls", "wire_callbacks", "script_world", "theory_progress", "state_journal", "state_book", "theory_trail"]
+          "wire_pulls", "wire_callbacks", "script_world", "theory_progress", "state_journal", "state_book",
+          "theory_trail"]
 # The laws of progress: each row counts what those before it don't.
 PROGRESS = "crates/theory_progress/src/laws.rt"
 TO_ITS_END = ["an_lra_ends_with_its_saga", "an_end_is_accepted", "open_participants_only_get_fewer",
@@ -71,7 +72,8 @@ def source(path: str) -> Iterator[str]:
 def imports(path: str) -> dict[str, Place]:
     """Each name that a file imports from a specs file: where it stands."""
     found = {}
-    for crate, module, names in re.findall(r"use Rattle\.([a-z]+_[a-z]+)\.specs\.([A-Z]\w*)\.\{([^}]*)\}", repo.read(path)):
+    brought = r"use Rattle\.([a-z]+_[a-z]+)\.specs\.([A-Z]\w*)\.\{([^}]*)\}"
+    for crate, module, names in re.findall(brought, repo.read(path)):
         for name in names.split(","):
             there, _, here = name.strip().partition(" as ")
             found[here or there] = f"crates/{crate}/specs/{module}.antt", there

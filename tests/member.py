@@ -29,10 +29,10 @@ from tools.participant import Participant
 from tools.ports import HOST, free_row, is_open, listening
 from tools.version import build_said
 
-USAGE = b"usage: lra_node member I|I-J DIR [listen=IP:PORT] [operate=IP:PORT] [names=NAME,..] [keep=MS] [keep-failed=MS] " \
-        b"[group=NAME] [copies=K] [patience=MS] [strict] [anew] HOST:PORT.. | lra_node member --version\n"
-NO_FOLDER = b"node 2: can't open its journal: the folder is missing, permission is denied, or no file descriptor is left\n" \
-            b"journal 2\n"
+USAGE = b"usage: lra_node member I|I-J DIR [listen=IP:PORT] [operate=IP:PORT] [names=NAME,..] [keep=MS] " \
+        b"[keep-failed=MS] [group=NAME] [copies=K] [patience=MS] [strict] [anew] HOST:PORT.. | lra_node member --version\n"
+NO_FOLDER = b"node 2: can't open its journal: the folder is missing, permission is denied, or no file descriptor " \
+            b"is left\njournal 2\n"
 # LRAs with their statuses.
 Shown = dict[str, str]
 # Bodies that members refuse, of which a node of lra_node takes some: of a begin, of a join and of a report; and why.

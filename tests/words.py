@@ -189,7 +189,7 @@ class TestWords(checks.Checked):
         repo.write(f"{self.folder}/crates.txt", listed)
         below = repo.below("lra_node", repo.crates(self.folder))
         self.check("crates come as they are built", below == ["lra_lowest", "lra_low"], below)
-        usage, other, refused = "usage: lra_node script N", "usage: lra_node member I", "error: not proved"
+        usage, other, refused = "usage: lra_node script N", "usage: lra_gateway listen", "error: not proved"
         for last, fails, shown in ((usage, "none", ""), (other, "none", other), (usage, "lra_low", refused)):
             self.write_rt(BUILD.format(last=last, fails=fails))
             ended, errors = self.proved_quickly()

@@ -269,7 +269,8 @@ class Group(Nodes):
         """Starts a process, for one node or for those that a word names, and doesn't wait for it. As for Python itself
         a write beyond a limit on files is an error there, and no end."""
         given = self.options if options is None else options
-        words = [self.program, "member", word or str(number), f"{self.folder}/{number}", *given, *self.addresses_for(number)]
+        chosen, folder = word or str(number), f"{self.folder}/{number}"
+        words = [self.program, "member", chosen, folder, *given, *self.addresses_for(number)]
         with open(f"{self.folder}/{number}.log", "ab") as log:
             self.processes[number] = subprocess.Popen(words, stdin=subprocess.PIPE, stderr=log, restore_signals=False)
 

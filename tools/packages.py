@@ -101,7 +101,8 @@ def usage_of(data: bytes, *words: str) -> str:
     """The usage that a program prints if it doesn't take its words."""
     with tempfile.TemporaryDirectory() as folder:
         put(f"{folder}/program", Member(data, 0o755))
-        said = subprocess.run([f"{folder}/program", *words], stdin=subprocess.DEVNULL, stderr=subprocess.PIPE, text=True)
+        said = subprocess.run([f"{folder}/program", *words], stdin=subprocess.DEVNULL, stderr=subprocess.PIPE,
+                              text=True)
     if said.returncode != 2 or not said.stderr.startswith("usage: "):
         raise SystemExit(f"release: a program ends with {said.returncode} in place of its usage: {said.stderr!r}")
     return said.stderr.removeprefix("usage: ").strip()
@@ -231,7 +232,8 @@ def control(release: Release, files: Files) -> Files:
     values = {"VERSION": release.version, "SIZE": str(size), "LIBRARIES": needs(release.programs.values())}
     for name, value in values.items():
         text = text.replace(f"@{name}@", value)
-    sums = "".join(f"{hashlib.md5(member.data).hexdigest()}  {path}\n" for path, member in sorted(files.items()) if not member.link)
+    kept = {path: member.data for path, member in files.items() if not member.link}
+    sums = "".join(f"{hashlib.md5(data).hexdigest()}  {path}\n" for path, data in sorted(kept.items()))
     made = {"control": Member(text.encode()), "md5sums": Member(sums.encode())}
     for name in ("conffiles", "templates"):
         made[name] = Member(bytes_at(f"deploy/debian/{name}"))

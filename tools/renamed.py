@@ -3,8 +3,9 @@
 
     python3 tools/renamed.py OLD.diff >NEW.diff
 
-Notes, issues and older entries of CHANGELOG.md speak in old names too: `python3 tools/renamed.py --table` prints each old name of a
-crate, a file or a type with its new one. OLD.diff has to be over a commit that this clone knows; BEFORE below names the last one."""
+Notes, issues and older entries of CHANGELOG.md speak in old names too: `python3 tools/renamed.py --table` prints each old
+name of a crate, a file or a type with its new one. OLD.diff is read as one over the last commit with the old names, which
+BEFORE names. Standard library alone."""
 import argparse
 import pathlib
 import re
@@ -121,7 +122,13 @@ TYPES = {
         "Members": "LocalMembers",
         "Role": "NodeThread",
     },
-    "lra_copies": {"Copies": "Replication", "Fate": "CallbackFate", "Verdict": "PullDecision", "Marks": "MarkList", "Others": "Acknowledgements"},
+    "lra_copies": {
+        "Copies": "Replication",
+        "Fate": "CallbackFate",
+        "Verdict": "PullDecision",
+        "Marks": "MarkList",
+        "Others": "Acknowledgements",
+    },
     "lra_luck": {
         "Copies": "DiskCopies",
         "Fate": "DiskFaults",
@@ -132,7 +139,13 @@ TYPES = {
         "Stage": "PullStage",
         "Store": "SimStore",
     },
-    "lra_mailbox": {"Known": "KnownFronts", "News": "NewlyDue", "Noted": "Effects", "Opening": "StartState", "Wanted": "OperatorWant"},
+    "lra_mailbox": {
+        "Known": "KnownFronts",
+        "News": "NewlyDue",
+        "Noted": "Effects",
+        "Opening": "StartState",
+        "Wanted": "OperatorWant",
+    },
     "lra_run": {"Opening": "JournalOpening", "Run": "SimRun"},
     "lra_turns": {"Calls": "Schedule", "Came": "CallFailure", "Due": "StartedCall", "Stand": "SlipState"},
     "lra_callback": {"Errand": "Purpose"},
@@ -144,7 +157,8 @@ TYPES = {
 }
 
 # Crates of the kit that the repository uses, and those whose names begin so.
-KIT = {"std", "core", "arrayvec", "base64", "http", "httparse", "itoa", "log", "matchit", "percent_encoding", "serde_json", "sha2", "url", "uuid"}
+KIT = {"std", "core", "arrayvec", "base64", "http", "httparse", "itoa", "log", "matchit", "percent_encoding",
+       "serde_json", "sha2", "url", "uuid"}
 BEGINNINGS = ("lra_", "sqlite", "test_")
 
 WORD = r"(?<![\w]){}(?![\w])"
@@ -174,8 +188,8 @@ def brought(text: str) -> dict[str, set[str]]:
         crate, kind = path.split(".")[0], "declared" if ".declared." in path else "other"
         if path.endswith("TheVariants"):
             kind = "other"
-        names = re.sub(r"[^\s,]+ as [^\s,]+", "", names)
-        found.setdefault(crate if kind == "declared" else f"{crate}.{kind}", set()).update(re.findall(r"(?<![\w-])[A-Z]\w*(?![\w-])", names))
+        alone = re.findall(r"(?<![\w-])[A-Z]\w*(?![\w-])", re.sub(r"[^\s,]+ as [^\s,]+", "", names))
+        found.setdefault(crate if kind == "declared" else f"{crate}.{kind}", set()).update(alone)
     return found
 
 
@@ -196,7 +210,8 @@ def meant(path: str, text: str) -> dict[str, tuple[str, str]]:
 
 
 def stands_alone(text: str, at: int, name: str) -> bool:
-    """Whether the name that stands there is that of a type: no variant, no name of another crate, no file of definitions."""
+    """Whether the name that stands there is that of a type: no variant, no English word of a comment, no name of another
+    crate, no file of definitions."""
     before = text[max(0, at - 600) : at]
     line = text[text.rfind("\n", 0, at) + 1 : text.find("\n", at) if "\n" in text[at:] else len(text)]
     if re.match(rf"    {name}(\(|,$| \{{$)", line):
@@ -254,7 +269,8 @@ def renamed(path: str, text: str, scope: str | None = None) -> str:
             text = text.replace(f"crates/{crate}/src/{old}.rt", f"crates/{crate}/src/{new}.rt")
             if crate == own:
                 last, last_new = old.split("/")[-1], new.split("/")[-1]
-                text = re.sub(rf"^(\s*(?:pub |pub\(crate\) )?mod ){last};", lambda m: m[1] + last_new + ";", text, flags=re.M)
+                declared = re.compile(rf"^(\s*(?:pub |pub\(crate\) )?mod ){last};", re.M)
+                text = declared.sub(lambda m: m[1] + last_new + ";", text)
                 text = re.sub(rf"(?<![\w.]){last}(?=::)", last_new, text)
                 text = re.sub(rf"((?:crate|super|self)::(?:\w+::)*){last}(?![\w(])", lambda m: m[1] + last_new, text)
                 text = re.sub(rf"^(file: src/){re.escape(old)}\.rt", lambda m: m[1] + new + ".rt", text, flags=re.M)
