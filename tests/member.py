@@ -30,7 +30,8 @@ from tools.ports import HOST, free_row, is_open, listening
 from tools.version import build_said
 
 USAGE = b"usage: lra_node member I|I-J DIR [listen=IP:PORT] [operate=IP:PORT] [names=NAME,..] [keep=MS] " \
-        b"[keep-failed=MS] [group=NAME] [copies=K] [patience=MS] [strict] [anew] HOST:PORT.. | lra_node member --version\n"
+        b"[keep-failed=MS] [group=NAME] [copies=K] [patience=MS] [strict] [anew] HOST:PORT.. | " \
+        b"lra_node member --version\n"
 NO_FOLDER = b"node 2: can't open its journal: the folder is missing, permission is denied, or no file descriptor " \
             b"is left\njournal 2\n"
 # LRAs with their statuses.

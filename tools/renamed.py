@@ -3,9 +3,9 @@
 
     python3 tools/renamed.py OLD.diff >NEW.diff
 
-Notes, issues and older entries of CHANGELOG.md speak in old names too: `python3 tools/renamed.py --table` prints each old
-name of a crate, a file or a type with its new one. OLD.diff is read as one over the last commit with the old names, which
-BEFORE names. Standard library alone."""
+Notes, issues and older entries of CHANGELOG.md speak in old names too: `python3 tools/renamed.py --table` prints each
+old name of a crate, a file or a type with its new one. OLD.diff is read as one over the last commit with the old names,
+which BEFORE names. Standard library alone."""
 import argparse
 import pathlib
 import re
@@ -210,8 +210,8 @@ def meant(path: str, text: str) -> dict[str, tuple[str, str]]:
 
 
 def stands_alone(text: str, at: int, name: str) -> bool:
-    """Whether the name that stands there is that of a type: no variant, no English word of a comment, no name of another
-    crate, no file of definitions."""
+    """Whether the name that stands there is a type's: no variant, no English word of a comment, no name of another crate,
+    and no file of definitions."""
     before = text[max(0, at - 600) : at]
     line = text[text.rfind("\n", 0, at) + 1 : text.find("\n", at) if "\n" in text[at:] else len(text)]
     if re.match(rf"    {name}(\(|,$| \{{$)", line):
