@@ -210,8 +210,8 @@ def meant(path: str, text: str) -> dict[str, tuple[str, str]]:
 
 
 def stands_alone(text: str, at: int, name: str) -> bool:
-    """Whether the name that stands there is a type's: no variant, no English word of a comment, no name of another crate,
-    and no file of definitions."""
+    """Whether the name that stands there is a type's: no variant, no English word of a comment, no name of another
+    crate, and no file of definitions."""
     before = text[max(0, at - 600) : at]
     line = text[text.rfind("\n", 0, at) + 1 : text.find("\n", at) if "\n" in text[at:] else len(text)]
     if re.match(rf"    {name}(\(|,$| \{{$)", line):
