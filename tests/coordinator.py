@@ -1,5 +1,5 @@
 #!/usr/bin/env python3
-"""Tests what ./coordinator makes of its words before any build: python3 tests/words.py. Standard library alone; some
+"""Tests what ./coordinator makes of its words before any build: python3 tests/coordinator.py. Standard library alone; some
 seconds.
 
 An `rt` stands first in PATH that tells that it was called, so a build that begins is seen. Then such an `rt` stands in
