@@ -1,4 +1,4 @@
-// Pulls between nodes. The rule by which a pull waits is that of node_server/src/run/holding.rt.
+// Pulls between nodes. The rule by which a pull waits is that of node_server/src/run/pull_holder.rt.
 
 use crate::play::{Play, nowhere};
 use node_inbox::{Telling, ask_for};

@@ -1,6 +1,6 @@
 -- Which roots of a node's home have ended, since when their trees show what they show, and when one
 -- is to be purged.
-use Rattle.std.specs.Prelude.{◌≡◌, ◌≤◌, ◌+◌, ◌-◌, ◌*◌, ◌⊎◌, ◌++◌, ◌∷◌, ◌==◌, ◌&&◌, ◌||◌, [], ℕ, Bool, true, false, List, Option, None, Some, MatchBool, if◌then◌else◌, filter, find, is_none, is_some, map, max, min, nat_le, nat_lt, not}
+use Rattle.std.specs.Prelude.{◌≡◌, ◌≤◌, ◌-◌, ◌*◌, ◌⊎◌, ◌++◌, ◌∷◌, ◌==◌, ◌&&◌, ◌||◌, [], ℕ, Bool, true, false, List, Option, None, Some, MatchBool, if◌then◌else◌, filter, find, is_some, map, max, min, nat_le, nat_lt, not}
 use Rattle.std.specs.List.{All, list_any}
 use Rattle.std.specs.Option.{option_map, option_map_or}
 use Rattle.std.specs.Duration.{as_nanos}
@@ -19,7 +19,7 @@ use Rattle.node_agenda.specs.declared.sweep.Chore.TheVariants.{List as ToList, P
 use Rattle.node_agenda.specs.declared.sweep.Fill.{Fill}
 use Rattle.node_agenda.specs.declared.sweep.Keep.{Keep}
 use Rattle.node_agenda.specs.declared.sweep.Purged.{Purged}
-use Rattle.node_agenda.specs.declared.sweep.Purged.TheVariants.{Changed, Gone, Later, Missing, Nested, Waits}
+use Rattle.node_agenda.specs.declared.sweep.Purged.TheVariants.{Changed, Gone, Later, Missing, Waits}
 use Rattle.node_agenda.specs.declared.sweep.TheConstants.{FIRST_PAUSE_MS, LAST_PAUSE_MS}
 
 -- Roots that have ended

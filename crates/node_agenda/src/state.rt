@@ -27,7 +27,7 @@ use crate::start_state::StartState;
 use crate::sweep::{Fill, Purged};
 use crate::sweeping::Sweeping;
 use crate::task::{OperatorWant, Task};
-use crate::turn::Turn;
+use crate::turn::{KINDS, Turn};
 use node_inbox::{Letter, Telling, Unheard};
 use node_schedule::{Called, Pace, Plight, Schedule, StartedCall};
 use state_ids::{Act, Front, LraId, LraStatus, NodeId, Outcome};
@@ -537,29 +537,14 @@ impl MailboxState {
     fn next_kind(&self, now: Duration) -> Option<Turn>
         ensures { IsNextKind self.now.last (has now self.now) result }
     {
-        let first = self.last.next();
-        let second = first.next();
-        let third = second.next();
-        let fourth = third.next();
-        let fifth = fourth.next();
-        let sixth = fifth.next();
-        if self.has(first, now) {
-            Some(first)
-        } else if self.has(second, now) {
-            Some(second)
-        } else if self.has(third, now) {
-            Some(third)
-        } else if self.has(fourth, now) {
-            Some(fourth)
-        } else if self.has(fifth, now) {
-            Some(fifth)
-        } else if self.has(sixth, now) {
-            Some(sixth)
-        } else if self.has(self.last, now) {
-            Some(self.last)
-        } else {
-            None
+        let mut kind = self.last;
+        for turn in 0..KINDS {
+            kind = kind.next();
+            if self.has(kind, now) {
+                return Some(kind);
+            }
         }
+        None
     }
 
     /// Takes the task of this kind.

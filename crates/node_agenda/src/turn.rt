@@ -2,6 +2,9 @@
 ghost use Rattle.std.specs.Prelude.{◌≡◌};
 ghost use Rattle.node_agenda.specs.Tasks.{after};
 
+/// How many kinds of tasks there are.
+pub(crate) const KINDS: u8 = 7;
+
 /// The kinds of tasks, by which the last turn is remembered.
 #[derive(Clone, Copy, PartialEq, Eq)]
 pub(crate) enum Turn {

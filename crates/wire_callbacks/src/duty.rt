@@ -101,7 +101,7 @@ impl Clone for Duties {
 }
 
 /// What a participant is called for: to do an act, to be released from remembering it, or to be
-/// notified that its LRA has ended. The `Purpose` of `state_forest` is what is owed at a record.
+/// notified that its LRA has ended. The `DutyKind` of `state_forest` is what is owed at a record.
 #[derive(Clone, Copy)]
 enum Purpose {
     Call(Act),
