@@ -4,7 +4,7 @@ import importlib
 import unittest
 
 # What needs no program, and then what does.
-MODULES = ("room", "shared", "memory", "openapi", "words", "metrics", "shapes", "locks", "page",
+MODULES = ("room", "shared", "memory", "openapi", "coordinator", "metrics", "shapes", "locks", "page",
            "serve", "member", "operate", "services", "readme", "proxies", "gateway", "fair", "hostile")
 
 
