@@ -1,6 +1,6 @@
 #!/usr/bin/env python3
-"""Tests what ./coordinator makes of its words before any build: python3 tests/coordinator.py. Standard library alone; some
-seconds.
+"""Tests what ./coordinator makes of its words before any build: python3 tests/coordinator.py. Standard library alone;
+some seconds.
 
 An `rt` stands first in PATH that tells that it was called, so a build that begins is seen. Then such an `rt` stands in
 for the kit's, in a repository that isn't one, to see what is said while a proof runs. Each check prints a line; the
