@@ -223,7 +223,7 @@ class TestBrowser(Opened):
         world.refuses = None
         browser.click(button("Report failed"))
         browser.click(YES)
-        is_entered = browser.waits(f"{content_of('note')}.startsWith('Entered')", 5)
+        is_entered = browser.waits(f"{content_of('note')}.startsWith('Done')", 5)
         self.check(f"{count}: a report is entered", is_entered)
         commands = [(method, path, body) for _, method, path, body in world.asked[before:] if method != "GET"]
         body = json.dumps({"act": first["kind"], "outcome": "failed"}, separators=(",", ":")).encode()
@@ -275,9 +275,9 @@ class TestBrowser(Opened):
         with self.opened(150) as (world, browser):
             lra = next(call for call in world.vain if call["kind"] == "after")["lra"]
             browser.get(f"toggle('{lra}', true)")
-            self.check("a listener that isn't told has its button", browser.waits(button("It was told"), 5))
-            browser.get(f"{button('It was told')}.scrollIntoView()")
-            browser.click(button("It was told"))
+            self.check("a listener that isn't told has its button", browser.waits(button("It was notified"), 5))
+            browser.get(f"{button('It was notified')}.scrollIntoView()")
+            browser.click(button("It was notified"))
             browser.click(YES)
             is_entered = browser.waits(f"{content_of('note')}.endsWith('/told')", 5)
             self.check("it is entered that it was told", is_entered)
@@ -296,7 +296,7 @@ class TestBrowser(Opened):
         self.check("why it isn't ready is told", browser.waits(f"{trouble}.includes('journal')", 8))
         world.is_stopped = True
         is_told = browser.waits(f"{trouble}.includes('E19 Stopped')", 8)
-        is_told = is_told and browser.get(trouble).count("What stands here is of") == 1
+        is_told = is_told and browser.get(trouble).count("This page shows what it answered at") == 1
         self.check("that what stands there is old is told", is_told and browser.get(SHOWN) == 150)
         world.is_stopped = False
         self.check("it goes on by itself", browser.waits(f"!{trouble}.includes('E19')", 15))
@@ -320,7 +320,8 @@ class TestBrowser(Opened):
 
     def try_purges(self, browser: Browser, world: World) -> None:
         plain = [one for one in world.lras.values() if all(member["kind"] != "lra" for member in one["members"])]
-        homes = {home_of(one["lra"]): one["lra"] for one in reversed(plain) if world.purge(one) == "due"}
+        homes = {home_of(one["lra"]): one["lra"] for one in reversed(plain)
+                 if world.purge(one) == "due" or home_of(one["lra"]) == 2}
         browser.get(f"toggle('{homes[2]}', true)")
         is_told = browser.waits("document.querySelector('.open p')?.textContent.includes('at node 2')", 5)
         self.check("one of another home is purged there", is_told and not browser.get(f"!!{button('Purge')}"))
@@ -388,14 +389,14 @@ class TestShown(Opened):
         away, title = content_of("away"), "document.title"
         self.check("of nodes that are heard nothing is said", browser.get(away) == "")
         world.pulled.update({2: 60, 3: 130})
-        wanted = "Node 3 hasn't been heard for 2 min: calls for its LRAs wait there."
+        wanted = "Node 3 has been silent for 2 min: calls for its LRAs wait there."
         is_told = browser.waits(f"{away}.startsWith({wanted!r})", 10)
         self.check("one that isn't heard is told, and one of a minute isn't", is_told, browser.get(away))
         color = browser.get("getComputedStyle(document.getElementById('away')).backgroundColor")
         self.check("it is red", color == "rgb(153, 27, 27)", color)
         self.check("the title has a sign", browser.get(title).startswith("! "), browser.get(title))
         world.pulled.update({2: 61, 3: 7300})
-        is_told = browser.waits(f"{away}.includes('for 1 min, nor node 3 for 2 h: calls for their')", 10)
+        is_told = browser.waits(f"{away}.includes('for 1 min, node 3 for 2 h: calls for their')", 10)
         self.check("two are told together", is_told, browser.get(away))
         world.pulled.update({2: 0, 3: 1})
         self.check("heard again they are told of no more", browser.waits(f"{away} === ''", 10))
@@ -413,7 +414,7 @@ class TestShown(Opened):
         is_told = is_told and f"{', '.join(full)}. No LRA can" in text
         self.check("a home that is full is told, of any node", is_told, text)
         self.check("one that nearly is, too", not near or f"Nearly full: home {near[0]}" in text, (near, text))
-        self.check("and what to do", "Purge there what has ended, or start the node with keep=MS." in text, text)
+        self.check("and what to do", "Purge ended LRAs there, or start the node with keep=MS." in text, text)
         world.most = int(taken[1] / 0.91)
         wanted = f"1 ({taken[1]} of {world.most})"
         self.check("above nine tenths it is told", browser.waits(f"{places}.includes('{wanted}')", 10), wanted)
@@ -429,7 +430,7 @@ class TestShown(Opened):
             self.check("a row that failed has the edge of one in vain", seen == red, (seen, red))
             look = "getComputedStyle({}).backgroundColor"
             chips = [browser.get(look.format(among("chips", f"startsWith('{text}')")))
-                     for text in ("In vain", "FailedToClose", "FailedToCancel", "Closed")]
+                     for text in ("Calls fail", "FailedToClose", "FailedToCancel", "Closed")]
             self.check("and its chip the colour", chips[0] == chips[1] == chips[2] != chips[3], chips)
             self.try_mild(browser, world, red)
 
@@ -441,7 +442,7 @@ class TestShown(Opened):
         world.vain.append(listener)
         self.check("a listener is told in its row", browser.waits(f"{FIRST}.textContent.includes('news:80')", 8))
         text = browser.get(f"{FIRST}.querySelector('.what').innerText").split("\n")
-        is_below = first["link"].split("/")[2] in text[0] and text[2].startswith("Member 2 at news:8025, to be told")
+        is_below = first["link"].split("/")[2] in text[0] and text[2].startswith("Member 2 at news:8025, to be notified")
         self.check("below the participant that hangs, though for longer", is_below, text)
         ids = browser.get("[...rows].filter(row => row[1].key).map(row => row[0])")
         last = max(ids.index(other["lra"]) for other in world.vain if other["kind"] != "after")

@@ -12,7 +12,7 @@ pub(crate) const PAGE: &str = "\
 <header><h1 id=\"head\">LRA coordinator</h1>\n\
 <p id=\"trouble\" role=\"alert\"></p><p id=\"away\" role=\"alert\"></p><p id=\"places\" role=\"alert\"></p><p id=\"note\" role=\"status\"></p>\n\
 <p><meter id=\"full\" max=\"256\" low=\"192\" high=\"231\" optimum=\"0\" aria-label=\"Places taken\" hidden></meter> <span id=\"sum\">Asking the node ..</span></p>\n\
-<ul id=\"hosts\" aria-label=\"Hosts that are called in vain\"></ul>\n\
+<ul id=\"hosts\" aria-label=\"Hosts whose calls fail\"></ul>\n\
 <div id=\"chips\" role=\"group\" aria-label=\"Show by status\"></div>\n\
 <div><input id=\"text\" type=\"search\" aria-label=\"Show by id, or by host of a participant\" placeholder=\"Id, or host of a participant\" autocomplete=\"off\" spellcheck=\"false\">\n\
 <button id=\"hold\" aria-pressed=\"false\">Hold still</button>\n\
@@ -23,12 +23,12 @@ pub(crate) const PAGE: &str = "\
 <p id=\"signs\" hidden>&#9679;&#8230;&#10003;&#10007;&#8634;&#8617;&#9492;&#9888;</p>\n\
 <script>\n\
 const $=id=>document.getElementById(id),SIGNS=[...$(\"signs\").textContent],LINE=String.fromCharCode(10),ASKS=3,SEARCHES=20;\n\
-const HEADS=[\"Called in vain, the longest first\",\"Failed\",\"Somebody is still to be told, or to forget\",\"Ending\",\"Active\",\"Ended\"];\n\
+const HEADS=[\"Calls fail, the longest first\",\"Failed\",\"Still to be notified, or to forget\",\"Ending\",\"Active\",\"Ended\"];\n\
 const LOOKS={Active:0,Closing:1,Completing:1,Closed:2,Completed:2,Cancelling:4,Compensating:4,Cancelled:5,Compensated:5};\n\
 const KINDS=[\"active\",\"closing\",\"closed\",\"failed\",\"cancelling\",\"cancelled\"];\n\
-const TASKS={status:\"be asked for its status\",after:\"be told of the end\"};\n\
-const CAUSES={journal:\"its journal fails, so it stores nothing. Is the disk full?\",behind:\"it hasn't heard from the other nodes yet.\",ending:\"it is ending.\",disk:\"a call has waited for its disk for seconds. Does the disk hang?\",copies:\"too few other nodes have what it stored, or another process gives its numbers.\"};\n\
-const PURGES={due:\"due\",E8:\"not before it has ended\",E9:\"with its root\",E10:\"a participant is still to forget\",E24:\"a listener is still to be told\"};\n\
+const TASKS={status:\"be asked for its status\",after:\"be notified of the end\"};\n\
+const CAUSES={journal:\"its journal fails, so it stores nothing. Is the disk full?\",behind:\"it hasn't heard from the other nodes yet.\",ending:\"it is ending.\",disk:\"a call has waited seconds for its disk. Does the disk hang?\",copies:\"too few other nodes have stored its facts, or another process runs as this node.\"};\n\
+const PURGES={due:\"due\",E8:\"not before it has ended\",E9:\"with its root\",E10:\"a participant must still forget\",E24:\"a listener must still be notified\"};\n\
 let node={},ready={ready:true},lras=new Map(),calls=new Map(),fault=\"\",opened=null,status=\"\",held=false,at=0,wake=()=>{};\n\
 let pulled=new Map(),most=256,counted=0,unfolded=false;\n\
 const infos=new Map(),ends=new Map(),seen=new Map(),rows=new Map();\n\
@@ -108,7 +108,7 @@ const mild=c=>c.kind===\"after\"||c.kind===\"forget\";\n\
 const hangs=it=>calls.has(it.lra)&&!mild(calls.get(it.lra)[0]);\n\
 const group=it=>hangs(it)?0:failed(it.status)?1:calls.has(it.lra)?2:ending(it.status)?3:it.status===\"Active\"?4:5;\n\
 const linkOf=m=>m.links.compensate||m.links.complete||m.links.after;\n\
-const vain=c=>many(c.times,\"time\")+\" in vain in \"+age(c.since)+\"; last: \"+c.came+\"; \"+(c.next===null?\"being called, or next in line\":\"next in \"+age(c.next));\n\
+const vain=c=>many(c.times,\"call\")+\" failed in \"+age(c.since)+\"; last: \"+c.came+\"; \"+(c.next===null?\"being called, or next in line\":\"next in \"+age(c.next));\n\
 const who=c=>\"Member \"+c.member+\" at \"+host(c.link)+\", to \"+(TASKS[c.kind]||c.kind);\n\
 function what(it){\n\
 const mine=calls.get(it.lra),members=infos.get(it.lra)?.body.members,end=ends.get(it.lra),text=[];\n\
@@ -211,9 +211,9 @@ const away=[...pulled].filter(p=>p[1]>60),taken={},full=[],near=[];\n\
 for(const id of lras.keys())taken[home(id)]=(taken[home(id)]||0)+1;\n\
 for(const[h,n]of Object.entries(taken))if(n>=most)full.push(h);else if(n>.9*most)near.push(h+\" (\"+n+\" of \"+most+\")\");\n\
 const homes=list=>(list.length>1?\"homes \":\"home \")+list.join(\", \")+\". \";\n\
-const silent=away.map((p,i)=>(i?\", nor node \"+p[0]:\"Node \"+p[0]+\" hasn't been heard\")+\" for \"+minutes(p[1])).join(\"\");\n\
-put($(\"away\"),silent&&silent+\": calls for \"+(away.length>1?\"their\":\"its\")+\" LRAs wait there. Start it, or mend the network.\");\n\
-put($(\"places\"),(full.length?\"Full: \"+homes(full)+\"No LRA can be begun there. \":\"\")+(near.length?\"Nearly full: \"+homes(near):\"\")+(full.length+near.length?\"Purge there what has ended, or start the node with keep=MS.\":\"\"));\n\
+const silent=away.map((p,i)=>(i?\", node \"+p[0]:\"Node \"+p[0]+\" has been silent\")+\" for \"+minutes(p[1])).join(\"\");\n\
+put($(\"away\"),silent&&silent+\": calls for \"+(away.length>1?\"their\":\"its\")+\" LRAs wait there. Start it, or repair the network.\");\n\
+put($(\"places\"),(full.length?\"Full: \"+homes(full)+\"No LRA can be begun there. \":\"\")+(near.length?\"Nearly full: \"+homes(near):\"\")+(full.length+near.length?\"Purge ended LRAs there, or start the node with keep=MS.\":\"\"));\n\
 return silent||full.length+near.length;\n\
 }\n\
 function summary(shown){\n\
@@ -226,25 +226,25 @@ hosts.set(key,h);\n\
 }\n\
 const bad=(count.FailedToClose||0)+(count.FailedToCancel||0),of=node.node?\", node \"+node.node+\" of \"+node.nodes:\"\";\n\
 put($(\"head\"),\"LRA coordinator\"+of);\n\
-document.title=(fault||!ready.ready||alarm?\"! \":\"\")+(calls.size?calls.size+\" in vain, \":\"\")+(bad?bad+\" failed, \":\"\")+many(lras.size,\"LRA\")+of;\n\
-put($(\"trouble\"),(ready.ready?\"\":\"The node isn't ready: \"+(CAUSES[ready.cause]||ready.cause)+\" \")+(fault&&\"No good answer comes: \"+fault+\".\"+(at?\" What stands here is of \"+when+\".\":\"\")));\n\
+document.title=(fault||!ready.ready||alarm?\"! \":\"\")+(calls.size?calls.size+\" failing, \":\"\")+(bad?bad+\" failed, \":\"\")+many(lras.size,\"LRA\")+of;\n\
+put($(\"trouble\"),(ready.ready?\"\":\"The node isn't ready: \"+(CAUSES[ready.cause]||ready.cause)+\" \")+(fault&&\"The node doesn't answer as it should: \"+fault+\".\"+(at?\" This page shows what it answered at \"+when+\".\":\"\")));\n\
 if(!at)return;\n\
 $(\"full\").max=most;\n\
 $(\"full\").low=most*.75;\n\
 $(\"full\").high=most*.9;\n\
 $(\"full\").value=own;\n\
 $(\"full\").hidden=false;\n\
-put($(\"sum\"),own+\" of the \"+most+\" places of this home are taken. \"+(node.nodes>1?many(lras.size,\"LRA\")+\" of all homes. Calls in vain are known of this home alone: look at the other nodes too. \":\"\")+(held?\"Held still since \":\"As of \")+when+\".\");\n\
+put($(\"sum\"),\"This node holds \"+own+\" LRAs of its own, of \"+most+\" that it may. \"+(node.nodes>1?many(lras.size,\"LRA\")+\" of all nodes. A node knows only of its own calls that fail: look at the other nodes too. \":\"\")+(held?\"Paused since \":\"As of \")+when+\".\");\n\
 showHosts([...hosts]);\n\
 chip(\"\",\"All\",lras.size);\n\
-chip(\"vain\",\"In vain\",calls.size);\n\
+chip(\"vain\",\"Calls fail\",calls.size);\n\
 for(const s of[\"Active\",\"Closing\",\"Cancelling\",\"FailedToClose\",\"FailedToCancel\",\"Closed\",\"Cancelled\"])chip(s,s,count[s]||0);\n\
 const unasked=sought()?[...lras.keys()].filter(id=>!infos.has(id)).length:0;\n\
 put($(\"none\"),(shown?\"\":lras.size?\"No LRA matches. \":\"This node holds no LRA. \")+(unasked?\"The hosts of \"+many(unasked,\"LRA\")+\" aren't known yet.\":\"\"));\n\
 }\n\
 function showHosts(hosts){\n\
 const list=$(\"hosts\"),room=unfolded?hosts.length:matchMedia(\"(max-width: 48rem)\").matches?3:8,beyond=hosts.length - room;\n\
-const top=hosts.slice(0,room).map(([key,h])=>[key,SIGNS[7]+\" \"+key+\": \"+h.n+\" in vain for \"+age(h.since)+\", \"+h.came,h.mild?\"late\":\"vain\"]);\n\
+const top=hosts.slice(0,room).map(([key,h])=>[key,SIGNS[7]+\" \"+key+\": \"+many(h.n,\"participant\")+\" failing for \"+age(h.since)+\", \"+h.came,h.mild?\"late\":\"vain\"]);\n\
 if(beyond>0)top.push([\"\",\"and \"+beyond+\" more\",\"\"]);\n\
 while(list.children.length>top.length)list.lastChild.remove();\n\
 top.forEach(([key,words,kind],i)=>{\n\
@@ -294,11 +294,11 @@ if(called.className!==kind)called.className=kind;\n\
 function facts(it,info){\n\
 const p=make(\"p\"),[of]=info.purge.split(\" \"),isHere=home(it.lra)===node.node;\n\
 if(info.parent)p.append(\"Nested in \",link(info.parent),\". \");\n\
-p.append(info.decision?\"Told to \"+info.decision+\". \":it.status===\"Active\"?\"Neither closed nor cancelled yet. \":\"It goes with what it is nested in. \");\n\
+p.append(info.decision?\"Decided: \"+info.decision+\". \":it.status===\"Active\"?\"Neither closed nor cancelled yet. \":\"It follows the LRA in which it is nested. \");\n\
 if(info.deadline)p.append(\"Deadline: \"+new Date(info.deadline).toLocaleString()+\". \");\n\
 p.append(\"Purge: \"+(of===\"E4\"?\"at node \"+home(it.lra):PURGES[of]||info.purge)+(of===\"E10\"||of===\"E24\"?\" (\"+info.purge+\")\":\"\")+(of===\"due\"&&!isHere?\", at node \"+home(it.lra):\"\")+\". \");\n\
-if(it.status===\"Active\")p.append(isHere?button(\"Cancel\",\"\",()=>ask(\"Cancel \"+name(it.lra)+\"?\",\"All who joined it, and what is nested in it, are called to compensate. Who still works with it is refused. This can't be undone.\",\"Cancel the LRA\",\"PUT\",\"/lra/\"+it.lra+\"/cancel\"),\"Cancel \"+name(it.lra)):\"It can be cancelled at the page of node \"+home(it.lra)+\". \");\n\
-if(of===\"due\"&&isHere)p.append(button(\"Purge\",\"\",()=>ask(\"Purge \"+name(it.lra)+\"?\",\"It deletes this LRA and all that is nested in it, at every node. Who asks for it later is answered E3 NotHeld.\",\"Purge\",\"DELETE\",\"/lra/\"+it.lra),\"Purge \"+name(it.lra)));\n\
+if(it.status===\"Active\")p.append(isHere?button(\"Cancel\",\"\",()=>ask(\"Cancel \"+name(it.lra)+\"?\",\"All participants of it and of the LRAs nested in it are called to compensate. Later calls for it are refused. This can't be undone.\",\"Cancel the LRA\",\"PUT\",\"/lra/\"+it.lra+\"/cancel\"),\"Cancel \"+name(it.lra)):\"Cancel it on the page of node \"+home(it.lra)+\". \");\n\
+if(of===\"due\"&&isHere)p.append(button(\"Purge\",\"\",()=>ask(\"Purge \"+name(it.lra)+\"?\",\"This deletes the LRA and all that is nested in it, at every node. Requests for it are answered E3 NotHeld from then on.\",\"Purge\",\"DELETE\",\"/lra/\"+it.lra),\"Purge \"+name(it.lra)));\n\
 return p;\n\
 }\n\
 const link=id=>button(name(id),\"link\",()=>toggle(id,true),\"LRA \"+name(id));\n\
@@ -311,26 +311,26 @@ wide.colSpan=4;\n\
 if(m.kind===\"lra\")wide.append(\"nested: \",link(m.lra),\" \",...lras.has(m.lra)?[dress(make(\"span\"),lras.get(m.lra).status)]:[]);\n\
 if(m.kind===\"left\")wide.append(\"left\");\n\
 if(!m.links){tr.append(wide);continue;}\n\
-const said=make(\"span\"),called=make(\"div\",\"vain\"),words=[[\"complete: \",m.completed],[\"compensate: \",m.compensated],[\"forgot\",m.forgotten],[\"was told\",m.told]].filter(s=>s[1]).map(s=>s[0]+(s[1]===true?\"\":s[1])).join(\", \");\n\
+const said=make(\"span\"),called=make(\"div\",\"vain\"),words=[[\"complete: \",m.completed],[\"compensate: \",m.compensated],[\"forgot\",m.forgotten],[\"notified\",m.told]].filter(s=>s[1]).map(s=>s[0]+(s[1]===true?\"\":s[1])).join(\", \");\n\
 box.cells.set(m.member,{called,said,words});\n\
 tr.append(make(\"td\",\"\",dress(make(\"span\"),m.status)),make(\"td\",\"\",said,called),\n\
 make(\"td\",\"\",...Object.entries(m.links).filter(l=>l[1]).map(l=>make(\"div\",\"\",l[0]+\" \"+l[1]))),make(\"td\",\"\",...deeds(it,m)));\n\
 }\n\
-const head=[\"Member\",\"Status\",\"Answers that count\",\"Links\",\"In its place\"].map(t=>heads(\"col\",t));\n\
+const head=[\"Member\",\"Status\",\"Answers that count\",\"Links\",\"Answer for it\"].map(t=>heads(\"col\",t));\n\
 return make(\"table\",\"\",make(\"caption\",\"\",\"Members of \"+name(it.lra)),make(\"thead\",\"\",make(\"tr\",\"\",...head)),body);\n\
 }\n\
 function deeds(it,m){\n\
 const path=\"/lra/\"+it.lra+\"/member/\"+m.member+\"/\",who=\"member \"+m.member+\" of \"+name(it.lra),top=root(it).status,list=[];\n\
-const add=(text,title,does,end,body)=>list.push(button(text,\"\",()=>ask(title,\"You say it in the place of \"+host(linkOf(m))+\", which isn't called for that any more. \"+does+\" This can't be undone.\",text,\"PUT\",path+end,body),text+\": member \"+m.member+\" at \"+host(linkOf(m))+\" of \"+name(it.lra)));\n\
+const add=(text,title,does,end,body)=>list.push(button(text,\"\",()=>ask(title,\"You answer for \"+host(linkOf(m))+\", which won't be called for that any more. \"+does+\" This can't be undone.\",text,\"PUT\",path+end,body),text+\": member \"+m.member+\" at \"+host(linkOf(m))+\" of \"+name(it.lra)));\n\
 if(open(m.status)){\n\
 const act=m.status===\"Completing\"?\"complete\":\"compensate\";\n\
 add(\"Report done\",\"Has \"+who+\" \"+act+\"d?\",\"The LRA goes on as if it had.\",\"report\",{act,outcome:\"done\"});\n\
 add(\"Report failed\",\"Did \"+who+\" fail to \"+act+\"?\",\"The LRA ends as FailedTo\"+(act===\"complete\"?\"Close.\":\"Cancel.\"),\"report\",{act,outcome:\"failed\"});\n\
 }\n\
 if(ended(it.status)&&ended(top)&&m.links.forget&&!m.forgotten&&(failed(m.status)||m.status===\"Completed\"&&it.parent))\n\
-add(\"It forgot\",\"Did \"+who+\" forget?\",\"Nothing that it keeps of this LRA holds up the purge any more.\",\"forgot\");\n\
+add(\"It has forgotten\",\"Has \"+who+\" forgotten this LRA?\",\"The purge no longer waits for it.\",\"forgot\");\n\
 if(ended(it.status)&&m.links.after&&!m.told&&(top!==\"Active\"||it.status.includes(\"Cancel\")))\n\
-add(\"It was told\",\"Was \"+who+\" told?\",\"It counts as told that this LRA is \"+it.status+\", and holds up the purge no more.\",\"told\");\n\
+add(\"It was notified\",\"Was \"+who+\" notified?\",\"It counts as notified that this LRA is \"+it.status+\", and the purge no longer waits for it.\",\"told\");\n\
 return list;\n\
 }\n\
 function ask(title,does,yes,method,path,body){\n\
@@ -342,12 +342,12 @@ try{\n\
 const answer=await fetch(path,{method,body:JSON.stringify(body),signal:AbortSignal.timeout(20000)});\n\
 if(answer.ok){\n\
 $(\"ask\").close();\n\
-put($(\"note\"),\"Entered: \"+method+\" \"+path);\n\
+put($(\"note\"),\"Done: \"+method+\" \"+path);\n\
 setTimeout(()=>put($(\"note\"),\"\"),8000);\n\
 return hold(false);\n\
 }\n\
 put($(\"came\"),\"Refused: \"+((await answer.json()).refused||answer.status));\n\
-}catch(error){put($(\"came\"),\"No whole answer came: \"+error.message+\". It may have been done.\");}\n\
+}catch(error){put($(\"came\"),\"No complete answer came: \"+error.message+\". The call may have been carried out.\");}\n\
 $(\"yes\").hidden=true;\n\
 put($(\"no\"),\"Close\");\n\
 };\n\
