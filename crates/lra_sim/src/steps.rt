@@ -346,8 +346,6 @@ impl<R: Runs> Play<R> {
                 return self.look_at_all();
             }
         }
-        Err(Halt::Found(format!(in self.alloc;
-            "something is left to be done two minutes after all is well"
-        )?))
+        Err(Halt::Found(format!(in self.alloc; "work is left two minutes after the last fault")?))
     }
 }

@@ -74,7 +74,7 @@ pub fn of_asked(
 
 pub fn of_errand(alloc: Global, reply: &Option<Reply>) -> Result<String, Halt> {
     let came = of_reply(alloc, reply)?;
-    Ok(format!(in alloc; "a call for operators is made: {came}")?)
+    Ok(format!(in alloc; "an operator's call is made: {came}")?)
 }
 
 pub fn of_entered(
@@ -84,7 +84,7 @@ pub fn of_entered(
     reply: &Option<Reply>,
 ) -> Result<String, Halt> {
     let (id, member, came) = (who.id, who.member, of_reply(alloc, reply)?);
-    Ok(format!(in alloc; "{id} member {member}: {heard} is entered: {came}")?)
+    Ok(format!(in alloc; "{id} member {member}: {heard} is stored: {came}")?)
 }
 
 pub fn of_sweep(
@@ -98,7 +98,7 @@ pub fn of_sweep(
 }
 
 pub fn of_taking(alloc: Global, me: NodeId, from: NodeId, front: &Front) -> Result<String, Halt> {
-    Ok(format!(in alloc; "node {me} takes what node {from} told: {front}")?)
+    Ok(format!(in alloc; "node {me} takes what node {from} sent: {front}")?)
 }
 
 pub fn of_expiry(alloc: Global, id: LraId) -> Result<String, Halt> {

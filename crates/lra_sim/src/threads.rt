@@ -30,7 +30,7 @@ fn is_took(reply: &Option<Reply>) -> bool {
 }
 
 fn untaken(alloc: Global, me: NodeId, from: NodeId) -> Result<Halt, Halt> {
-    Ok(Halt::Found(format!(in alloc; "node {me} can't take what node {from} told")?))
+    Ok(Halt::Found(format!(in alloc; "node {me} can't take what node {from} sent")?))
 }
 
 fn not_listed(alloc: Global, who: &DueCall) -> Result<Halt, Halt> {

@@ -15,24 +15,24 @@ pub enum Halt {
 
 impl From<AllocError> for Halt {
     fn from(_: AllocError) -> Halt {
-        Halt::Stuck("no memory")
+        Halt::Stuck("out of memory")
     }
 }
 
 impl<T: Drop> From<AllocFailed<T>> for Halt {
     fn from(_: AllocFailed<T>) -> Halt {
-        Halt::Stuck("no memory")
+        Halt::Stuck("out of memory")
     }
 }
 
 impl From<BadText> for Halt {
     fn from(_: BadText) -> Halt {
-        Halt::Stuck("a name is none")
+        Halt::Stuck("a name is malformed")
     }
 }
 
 impl From<Refusal> for Halt {
     fn from(_: Refusal) -> Halt {
-        Halt::Stuck("a refusal where there can be none")
+        Halt::Stuck("a refusal that can't be")
     }
 }

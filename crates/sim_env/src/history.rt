@@ -97,7 +97,7 @@ impl History {
         if num.checked_sub(1) != Some(count) {
             let alloc = self.alloc;
             return Err(Halt::Found(format!(in alloc;
-                "node {origin} enters number {num} behind {count} facts"
+                "node {origin} stores its fact {num} after {count} facts"
             )?));
         }
         let place = self.facts.len();

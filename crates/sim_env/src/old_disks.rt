@@ -30,7 +30,7 @@ pub fn raised(front: Front, node: NodeId, count: u64) -> Front {
 
 /// Reports that files have other facts than they had.
 fn changed(alloc: Global, had: Front, has: Front) -> Result<Halt, Halt> {
-    Ok(Halt::Found(format!(in alloc; "its disk had {had}, and it has {has}")?))
+    Ok(Halt::Found(format!(in alloc; "the disk had the front {had}, but the node has {has}")?))
 }
 
 /// Returns the front with the node's own fact that was in doubt. If the files have that fact, it

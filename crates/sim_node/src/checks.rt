@@ -76,7 +76,7 @@ fn see_rows(alloc: Global, me: NodeId, rows: &[Row], all: &[Shown]) -> Result<()
         if row.id != shown.id || row.status != shown.status {
             let (id, status, other, wanted) = (row.id, row.status, shown.id, shown.status);
             let words = format!(in alloc;
-                "node {me} shows {id} {status}, and its facts say {other} {wanted}"
+                "node {me} shows {id} as {status}, but by its facts {other} is {wanted}"
             )?;
             return Err(Halt::Found(words));
         }
@@ -90,7 +90,7 @@ fn see_page(alloc: Global, me: NodeId, page: &Page, all: &[Shown]) -> Result<(),
     see_rows(alloc, me, page.rows(), all)?;
     if page.rows().len() != count.min(ROWS) || page.more() != (count > ROWS) {
         return Err(Halt::Found(format!(in alloc;
-            "node {me} lists more or fewer than the {count} of its facts"
+            "node {me} doesn't list exactly the {count} LRAs of its facts"
         )?));
     }
     Ok(())
@@ -116,24 +116,28 @@ fn not_so_held(alloc: Global, id: LraId, reply: &Reply) -> Result<Halt, Halt> {
 
 fn not_so_replied(alloc: Global, reply: &CommandReply) -> Result<Halt, Halt> {
     Ok(Halt::Found(format!(in alloc;
-        "a command is answered {reply:?}, and its facts say otherwise"
+        "a command is answered {reply:?}, which its facts contradict"
     )?))
 }
 
 fn not_so_due(alloc: Global, listed: &[DueCall], wanted: &[DueCall]) -> Result<Halt, Halt> {
-    Ok(Halt::Found(format!(in alloc; "due is {listed:?}, and facts say {wanted:?}")?))
+    Ok(Halt::Found(format!(in alloc;
+        "the listed duties are {listed:?}, but by the facts they are {wanted:?}"
+    )?))
 }
 
 fn not_told(alloc: Global, me: NodeId, has: Front) -> Result<Halt, Halt> {
-    Ok(Halt::Found(format!(in alloc; "node {me} has {has}, and tells otherwise")?))
+    Ok(Halt::Found(format!(in alloc; "node {me} has the front {has}, but answers another one")?))
 }
 
 fn not_the_next(alloc: Global, had: Front, has: Front) -> Result<Halt, Halt> {
-    Ok(Halt::Found(format!(in alloc; "its run ended with {had}, and the next has {has}")?))
+    Ok(Halt::Found(format!(in alloc;
+        "a run ended with the front {had}, but the next one begins with {has}"
+    )?))
 }
 
 fn overdue(alloc: Global, me: NodeId) -> Result<Halt, Halt> {
-    Ok(Halt::Found(format!(in alloc; "an LRA of node {me} is overdue, and stays")?))
+    Ok(Halt::Found(format!(in alloc; "an LRA of node {me} is overdue, but isn't cancelled")?))
 }
 
 fn found(alloc: Global, id: LraId, what: &str) -> Result<Halt, Halt> {
@@ -216,7 +220,7 @@ impl<R: Runs> SimNode<R> {
             return Ok(());
         };
         if !self.known.model().may_be_purged(root) {
-            return Err(found(self.alloc, root, " is purged, and somebody is to be told")?);
+            return Err(found(self.alloc, root, " is purged, but someone must still be notified")?);
         }
         match &self.life {
             Some(life) if asked.is_sweep => self.see_swept(root, life.began_at(), now),
@@ -233,7 +237,7 @@ impl<R: Runs> SimNode<R> {
         let count = usize::from(self.nodes);
         if count > 1 && !life.may_enter(self.known.own(), place, count, now) {
             return Err(Halt::Found(format!(in self.alloc;
-                "it enters something before the others are heard"
+                "a node stores a fact before it has heard from the others"
             )?));
         }
         Ok(())
@@ -257,7 +261,7 @@ impl<R: Runs> SimNode<R> {
             Some(Reply::Listed(page)) => see_page(self.alloc, self.me, page, self.known.shown()),
             None => Ok(()),
             _ => Err(Halt::Found(format!(in self.alloc;
-                "a page is asked for, and something else comes"
+                "a call for a page has another kind of reply"
             )?)),
         }
     }

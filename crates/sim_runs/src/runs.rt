@@ -56,7 +56,7 @@ fn left_by(
     if refusal == Refusal::JournalFailed {
         return Ok(JournalOpening::Failed(files));
     }
-    Err(Halt::Found(format!(in alloc; "its journal isn't opened: {refusal}")?))
+    Err(Halt::Found(format!(in alloc; "the journal can't be opened: {refusal}")?))
 }
 
 fn opened(
