@@ -15,7 +15,7 @@ pub(crate) const PAGE: &str = "\
 <ul id=\"hosts\" aria-label=\"Hosts whose calls fail\"></ul>\n\
 <div id=\"chips\" role=\"group\" aria-label=\"Show by status\"></div>\n\
 <div><input id=\"text\" type=\"search\" aria-label=\"Show by id, or by host of a participant\" placeholder=\"Id, or host of a participant\" autocomplete=\"off\" spellcheck=\"false\">\n\
-<button id=\"hold\" aria-pressed=\"false\">Hold still</button>\n\
+<button id=\"hold\" aria-pressed=\"false\">Pause</button>\n\
 <span class=\"soft keys\">Keys: j and k move, Enter opens, / filters, Esc closes</span></div></header>\n\
 <main><ul id=\"list\" aria-label=\"LRAs\"></ul><p id=\"none\" class=\"soft\"></p></main>\n\
 <dialog id=\"ask\" aria-labelledby=\"what\"><h2 id=\"what\"></h2><p id=\"does\"></p><p><code id=\"call\"></code></p><p id=\"came\" role=\"alert\"></p>\n\
@@ -234,7 +234,7 @@ $(\"full\").low=most*.75;\n\
 $(\"full\").high=most*.9;\n\
 $(\"full\").value=own;\n\
 $(\"full\").hidden=false;\n\
-put($(\"sum\"),\"This node holds \"+own+\" LRAs of its own, of \"+most+\" that it may. \"+(node.nodes>1?many(lras.size,\"LRA\")+\" of all nodes. A node knows only of its own calls that fail: look at the other nodes too. \":\"\")+(held?\"Paused since \":\"As of \")+when+\".\");\n\
+put($(\"sum\"),\"This node holds \"+own+\" of at most \"+most+\" LRAs of its own. \"+(node.nodes>1?many(lras.size,\"LRA\")+\" of all nodes together. A node sees only its own failing calls, so look at the other nodes too. \":\"\")+(held?\"Paused since \":\"As of \")+when+\".\");\n\
 showHosts([...hosts]);\n\
 chip(\"\",\"All\",lras.size);\n\
 chip(\"vain\",\"Calls fail\",calls.size);\n\
