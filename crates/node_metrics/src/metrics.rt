@@ -120,7 +120,7 @@ fn push_refusals(page: &mut MetricsPage, numbers: &Numbers) -> Result<(), AllocE
 
 fn push_callbacks(page: &mut MetricsPage, numbers: &Numbers) -> Result<(), AllocError> {
     let name = "lra_callbacks_total";
-    page.family(name, "counter", "Calls of participants, by what was heard.")?;
+    page.family(name, "counter", "Calls of participants, by their answers.")?;
     for (kind, row) in KINDS.iter().zip(&numbers.callbacks) {
         for (heard, value) in HEARD.iter().zip(row) {
             page.open(name)?;
@@ -163,7 +163,7 @@ fn push_ages(
     page.family(
         name,
         "gauge",
-        "How long ago a pull last succeeded; since the start where none did.",
+        "How long ago a pull last succeeded, or since the start if none did.",
     )?;
     for other in 1..=node.nodes {
         if other != node.number() {
@@ -179,7 +179,7 @@ fn push_ages(
 
 fn push_front<R: Wait>(page: &mut MetricsPage, rt: &R, node: &Node) -> Result<(), AllocError> {
     let name = "lra_front";
-    page.family(name, "gauge", "Facts of each node that are known here.")?;
+    page.family(name, "gauge", "Facts of each node that this node has.")?;
     let front = node.mailbox.front(rt);
     let mut of = 0u64;
     for count in front.as_slice() {
@@ -203,7 +203,7 @@ fn push_held<R: Wait>(page: &mut MetricsPage, rt: &R, node: &Node) -> Result<(),
     page.single(
         "lra_held_limit",
         "gauge",
-        "LRAs that the home holds at most.",
+        "The most LRAs that the home may hold.",
         MAX_HELD as u64,
     )
 }
@@ -224,17 +224,13 @@ fn push_build(page: &mut MetricsPage, build: Option<&Build>) -> Result<(), Alloc
 
 /// Writes the families of calls and runs.
 fn push_calls(page: &mut MetricsPage, numbers: &Numbers) -> Result<(), AllocError> {
-    page.family(
-        "lra_calls_total",
-        "counter",
-        "Calls at the desk, by what they ask for.",
-    )?;
+    page.family("lra_calls_total", "counter", "Calls at the desk, by kind.")?;
     page.named("lra_calls_total", "call", &CALL_NAMES, &numbers.calls)?;
     push_refusals(page, numbers)?;
-    page.family("lra_runs_total", "counter", "Runs that are over, by why.")?;
+    page.family("lra_runs_total", "counter", "Runs that ended, by cause.")?;
     page.named("lra_runs_total", "why", &RUNS, &numbers.runs)?;
     let failures = numbers.failures;
-    let help = "Failures of the journal, and tries in vain to open it again.";
+    let help = "Failures of the journal, and failed attempts to reopen it.";
     page.single("lra_journal_failures_total", "counter", help, failures)
 }
 
@@ -247,12 +243,13 @@ fn push_participants<R: Wait>(
     now: Duration,
 ) -> Result<(), AllocError> {
     push_callbacks(page, numbers)?;
-    let help = "Participants that wait for a call, are called, or pause before the next.";
+    let help =
+        "Participants that wait for a call, are being called, or pause before the next call.";
     page.single("lra_callbacks_due", "gauge", help, node.mailbox.due(rt))?;
     let (count, oldest) = node.mailbox.in_vain(rt, now);
-    let help = "Participants that are called in vain.";
+    let help = "Participants whose calls fail.";
     page.single("lra_callbacks_vain", "gauge", help, count)?;
-    let help = "How long the one is called in vain that is so for longest.";
+    let help = "The longest time for which a participant's calls have failed.";
     page.single(
         "lra_callbacks_oldest_seconds",
         "gauge",
@@ -263,7 +260,7 @@ fn push_participants<R: Wait>(
 
 fn push_told<R: Wait>(page: &mut MetricsPage, rt: &R, node: &Node) -> Result<(), AllocError> {
     let name = "lra_told";
-    let help = "Facts of this node that another told that it stored.";
+    let help = "Facts of this node that another node says it has stored.";
     page.family(name, "gauge", help)?;
     for number in 1..=node.nodes {
         let Ok(other) = NodeId::new(number) else {
@@ -280,15 +277,16 @@ fn push_told<R: Wait>(page: &mut MetricsPage, rt: &R, node: &Node) -> Result<(),
 
 /// Writes the families of requests and calls that wait until other nodes have what is stored here.
 fn push_waiting<R: Wait>(page: &mut MetricsPage, rt: &R, node: &Node) -> Result<(), AllocError> {
-    let help = "Pulls of other nodes that wait until there is something new.";
+    let help = "Pulls from other nodes that wait until there is something new.";
     page.single("lra_pulls_held", "gauge", help, node.queue.holding())?;
     if node.nodes > 1 {
         push_told(page, rt, node)?;
     }
-    let help = "Answers that wait until other nodes have what they show.";
+    let help = "Answers that wait until other nodes have stored what they show.";
     page.single("lra_answers_waiting", "gauge", help, node.queue.promises())?;
     let name = "lra_answers_waited_total";
-    let help = "Answers and lists of calls that waited, by whether others had it in time.";
+    let help =
+        "Answers and lists of callbacks that waited for copies, by whether these came in time.";
     page.family(name, "counter", help)?;
     let waited = node.followers.waited(rt);
     page.named(
@@ -297,7 +295,7 @@ fn push_waiting<R: Wait>(page: &mut MetricsPage, rt: &R, node: &Node) -> Result<
         &["copied", "late"],
         &[waited.copied, waited.late],
     )?;
-    let help = "Whether others fell behind for longer than an answer waits.";
+    let help = "Whether other nodes have been behind for longer than an answer waits.";
     let short = u64::from(node.followers.is_short(rt));
     page.single("lra_copies_short", "gauge", help, short)
 }
@@ -323,14 +321,14 @@ fn push_others<R: Wait>(
         "Connections that wait for a worker.",
         node.queue.waiting(rt),
     )?;
-    let help = "Connections that were taken.";
+    let help = "Accepted connections.";
     page.single("lra_connections_total", "counter", help, numbers.accepted)?;
-    let help = "Connections that were closed for want of files.";
+    let help = "Connections that were closed because no file descriptor was left.";
     page.single("lra_closed_total", "counter", help, numbers.closed)?;
     page.family(
         "lra_swept_total",
         "counter",
-        "Purges that the node made by itself.",
+        "Purges that the node made on its own.",
     )?;
     page.named("lra_swept_total", "came", &SWEPT, &numbers.swept)
 }
@@ -348,13 +346,13 @@ pub fn metrics_of<R: Wait + Clock>(
         node: node.number(),
         text: Vec::new(alloc),
     };
-    page.single("lra_up", "gauge", "Whether the node lives.", 1)?;
+    page.single("lra_up", "gauge", "Whether the node runs.", 1)?;
     push_build(&mut page, node.build())?;
     let ready = u64::from(node.unready(rt).is_none());
     page.single(
         "lra_ready",
         "gauge",
-        "Whether the node enters commands.",
+        "Whether the node accepts commands.",
         ready,
     )?;
     let help = "When the node started, in seconds since 1970.";
