@@ -1,6 +1,6 @@
 #!/usr/bin/env python3
-"""Writes the page for operators into the code: python3 demo/embed.py makes crates/wire_operators/src/page.rt of
-demo/watch.html, squeezed. With --check it only says whether that is done. Standard library alone."""
+"""Writes the operators' page into the code: python3 demo/embed.py makes crates/wire_operators/src/page.rt from
+demo/watch.html, minified. With --check it only checks that the file is up to date. Uses only the standard library."""
 import os
 import sys
 
@@ -18,7 +18,7 @@ pub(crate) const PAGE: &str = "\\
 
 
 def literal() -> str:
-    """The text of the file. A line of the page ends with \\n, and goes on in the next of the literal."""
+    """Returns the text of the file. A line of the page ends with \\n, and the literal goes on in the next line."""
     lines = squeeze(repo.read(PAGE)).replace("\\", "\\\\").replace('"', '\\"').splitlines()
     return HEAD + "".join(f"{line}\\n\\\n" for line in lines) + '";\n'
 

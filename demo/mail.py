@@ -1,9 +1,9 @@
 #!/usr/bin/env python3
-"""A mail service that hears what became of LRAs: python3 demo/mail.py PORT
+"""A mail service that is notified of what became of LRAs: python3 demo/mail.py PORT
 
-It takes what a coordinator tells at an `after` link, such as http://127.0.0.1:PORT/mail, prints a line for each LRA and
-answers 200. So it also stands in for a listener that is gone for good, whose LRA can't be purged before it has
-answered. Standard library alone."""
+It takes the coordinator's calls to an `after` link, such as http://127.0.0.1:PORT/mail, prints a line for each LRA and
+answers 200. So it can also stand in for a listener that is gone for good, whose LRA can't be purged until it has
+answered. Uses only the standard library."""
 import http.server
 import io
 import sys
@@ -12,8 +12,8 @@ from collections.abc import Callable
 
 
 class Mail:
-    """Listens at a port, and hands each LRA of which it hears, with its status, to `hear`. It takes the same call
-    twice."""
+    """Listens at a port, and passes each LRA of which it is notified, with its status, to `hear`. It ignores a repeated
+    call."""
 
     def __init__(self, port: int, hear: Callable[[str, str], object]) -> None:
         self.link = f"http://127.0.0.1:{port}/mail"
@@ -44,7 +44,7 @@ def main() -> None:
     if isinstance(sys.stdout, io.TextIOWrapper):
         sys.stdout.reconfigure(line_buffering=True)
     mail = Mail(int(sys.argv[1]), lambda lra, status: print(f"{lra} is {status}"))
-    print(f"Listening at {mail.link}, until Ctrl-C")
+    print(f"Listening at {mail.link}; stop with Ctrl-C")
     try:
         threading.Event().wait()
     except KeyboardInterrupt:

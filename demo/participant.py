@@ -1,6 +1,6 @@
 #!/usr/bin/env python3
-"""A participant at 127.0.0.1:9001, or at the port that is given, which prints each call and answers 200: python3 demo/participant.py [PORT].
-An address behind the port is where it listens in its place. Standard library alone."""
+"""A participant that prints each call and answers 200: python3 demo/participant.py [PORT [ADDRESS]]. It listens at
+127.0.0.1:9001 unless another port, or a port and an address, are given. Uses only the standard library."""
 import http.server
 import sys
 
@@ -10,7 +10,7 @@ class Participant(http.server.BaseHTTPRequestHandler):
         body = self.rfile.read(int(self.headers.get("Content-Length", 0))).decode()
         print(f"{self.command} {self.path} {self.headers.get('Long-Running-Action', '')} {body}".rstrip(), flush=True)
         self.send_response(200)
-        # A length, since the coordinator takes no answer in chunks.
+        # This needs a length, since the coordinator takes no answer in chunks.
         self.send_header("Content-Length", "0")
         self.end_headers()
 

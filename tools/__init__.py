@@ -1,2 +1,1 @@
-"""What the repository's programs in Python share: what builds, what finds, and what measures. Standard library
-alone."""
+"""What the repository's Python programs share: builders, finders and measurements. Uses only the standard library."""

@@ -1,5 +1,5 @@
-"""Builds of the coordinator's programs: proved ones, which are kept as rt leaves them, and the unproved ones of
-unproved.py."""
+"""Builds of the coordinator's programs: proved ones, which are kept as rt leaves them, and unproved ones
+(unproved.py)."""
 import collections
 import hashlib
 import os
@@ -14,10 +14,10 @@ from tools import repo
 from tools.repo import TOP
 
 PARTS = ("crates.txt", "crates/*/src/**/*.rt", "crates/*/specs/**/*.antt")
-# Seconds from one line on a build to the next.
+# Seconds between two lines about a build.
 EACH = 15
-# A crate is proved by so many jobs at most, where so much memory is free. rt itself takes two for a crate high up: it
-# counts on more memory than they need. Four took 8.4 GB at most.
+# The most jobs that prove one crate, and how much memory must be free for that. rt by itself would use two jobs for a
+# crate high up, since it expects that they need more memory than they do. Four jobs took at most 8.4 GB.
 JOBS = 4
 ROOM = 12 << 30
 
@@ -27,7 +27,7 @@ def say(text: str) -> None:
 
 
 class Progress:
-    """Says now and then what a build is at, and how long it has taken."""
+    """Prints now and then which step a build has reached, and how long it has taken."""
 
     def __init__(self, what: str) -> None:
         self.what, self.began = what, time.monotonic()
@@ -42,7 +42,7 @@ class Progress:
 
 
 def text_sum(kit: str = "") -> str:
-    """What a program is compiled from: the kit, where it counts, and each file of the crates."""
+    """Returns a checksum of what a program is compiled from: the kit, if it is given, and each file of the crates."""
     found = hashlib.sha256(kit.encode())
     for part in PARTS:
         for path in repo.files(part):
@@ -52,7 +52,7 @@ def text_sum(kit: str = "") -> str:
 
 
 def is_kept(file: str, text: str) -> bool:
-    """Whether a file says that what lies beside it was built from this text."""
+    """Whether a file says that the program beside it was built from this source text."""
     try:
         return repo.read(file) == text
     except OSError:
@@ -66,7 +66,7 @@ def need_rt() -> None:
 
 
 def jobs() -> list[str]:
-    """The words that have rt share a proof among processors, where there is memory for that."""
+    """Returns the options that make rt share a proof among processors, if there is enough memory for that."""
     with open("/proc/meminfo", encoding="ascii") as file:
         free = re.search(r"^MemAvailable: +(\d+) kB$", file.read(), re.M)
     if not free or int(free[1]) << 10 < ROOM:
@@ -75,7 +75,7 @@ def jobs() -> list[str]:
 
 
 def run_rt(words: list[str], folder: str, progress: Progress) -> tuple[int, list[str]]:
-    """Runs rt in a crate's folder, and tells how far it is. What comes of it: the status, and the last lines."""
+    """Runs rt in a crate's folder and reports its progress. Returns the exit status and the last lines."""
     last, what = collections.deque[str](maxlen=12), progress.what
     run = subprocess.Popen(["rt", *words], cwd=folder, stdin=subprocess.DEVNULL, stdout=subprocess.PIPE,
                            stderr=subprocess.STDOUT, text=True, errors="replace")
@@ -97,9 +97,9 @@ def run_rt(words: list[str], folder: str, progress: Progress) -> tuple[int, list
 
 
 def prove(name: str, top: str = TOP) -> None:
-    """Has rt prove and build a program, and first each crate below it, the lowest first: else rt would read the
-    sources of all for some minutes before it proves one. The program is built if it has answered: to words that it
-    doesn't take, with its usage."""
+    """Has rt prove and build a program. Proves each crate below it first, from the lowest up: otherwise rt would read
+    the sources of all crates for some minutes before it proves any. The program is built if it ran: it prints its usage
+    when it is given words that it doesn't accept."""
     say("building. This proves every crate once, which takes 45 to 60 minutes on four processors.")
     below = repo.below(name, repo.crates(top))
     progress = Progress("")
@@ -114,7 +114,7 @@ def prove(name: str, top: str = TOP) -> None:
 
 
 def proved(name: str) -> str:
-    """The path of a proved program, which is built where it isn't there for this text."""
+    """Returns the path of a proved program, and builds it first if there is none for the present source text."""
     program, text = repo.program(name), text_sum()
     if not (is_kept(f"{program}.text", text) and os.access(program, os.X_OK)):
         need_rt()

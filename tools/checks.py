@@ -1,4 +1,4 @@
-"""Tests of many checks, each of which prints a line where a test is run as a program; and how it is run so."""
+"""Tests that consist of many checks, and the code that runs them as a program, where each check prints a line."""
 import contextlib
 import os
 import sqlite3
@@ -15,11 +15,11 @@ from tools.participant import Participant
 
 
 class Checked(unittest.TestCase):
-    """A test that goes on behind a check that fails. It has a folder of its own, which is gone behind it."""
+    """A test that goes on after a check fails. It has a folder of its own, which is removed when it ends."""
 
     # Whether each check prints a line.
     is_told = False
-    # The programs that have to be built, and how long all takes where that is long.
+    # The programs that must be built, and how long the whole test takes, if that is long.
     needs: tuple[type[Server] | type[Group] | type[Gateway], ...] = ()
     takes: str | None = None
 
@@ -37,7 +37,7 @@ class Checked(unittest.TestCase):
         self.folder = folder.name
 
     def check(self, what: str, is_so: object, seen: object = "") -> None:
-        """Whether something is so, and what was seen where it isn't."""
+        """Checks that something is true, and reports what was seen if it isn't."""
         with self.subTest(what):
             if self.is_told:
                 print(f"ok      {what}" if is_so else f"FAILED  {what}: {seen}", flush=True)
@@ -45,42 +45,42 @@ class Checked(unittest.TestCase):
                 self.fail(f"{what}: {seen}")
 
     def same(self, what: str, wanted: object, seen: object) -> None:
-        """Whether something is what is wanted."""
+        """Checks that two values are equal."""
         self.check(what, wanted == seen, f"\n  wanted {wanted}\n  seen   {seen}")
 
     def is_whole(self, journal: str, node: int) -> None:
-        """Whether SQLite finds a node's journal whole."""
+        """Checks that SQLite finds a node's journal intact."""
         with contextlib.closing(sqlite3.connect(journal)) as database:
             found = database.execute("PRAGMA integrity_check").fetchone()
-        self.check(f"the journal of node {node} is whole", found == ("ok",), found)
+        self.check(f"the journal of node {node} is intact", found == ("ok",), found)
 
     def folder_in(self, *names: str) -> str:
-        """A folder in that of the test."""
+        """Makes a folder inside the test's folder."""
         path = os.path.join(self.folder, *names)
         os.makedirs(path, exist_ok=True)
         return path
 
     def server(self, nodes: int, folder: str | None = None, **how: typing.Any) -> Server:
-        """A server that is started, and killed with the test."""
+        """Starts a server, which is killed when the test ends."""
         started = Server(nodes, folder or self.folder, **how)
         self.addCleanup(started.__exit__)
         return started
 
     def participant(self, **how: typing.Any) -> Participant:
-        """A participant that is there as long as the test."""
+        """Starts a participant, which runs until the test ends."""
         part = Participant(**how)
         self.addCleanup(part.close)
         return part
 
     def group(self, count: int, *options: str, kind: type[Group] = Group) -> typing.Any:
-        """Members that aren't started yet, and are killed with the test."""
+        """Makes members that aren't started yet. They are killed when the test ends."""
         made = kind(count, self.folder, *options)
         self.addCleanup(made.__exit__)
         return made
 
 
 class Lines(unittest.TestResult):
-    """Tells what no check tells: a test that can't go on, one that is skipped, and one that took its time."""
+    """Prints what no check prints: a test that can't go on, one that is skipped, and one that took a second or more."""
 
     def startTest(self, test: unittest.TestCase) -> None:
         super().startTest(test)
@@ -106,17 +106,17 @@ class Lines(unittest.TestResult):
 
 
 def word_of(test: unittest.TestCase) -> str:
-    """The word by which a test is asked for."""
+    """Returns the word that selects a test on the command line."""
     return test.id().rpartition(".")[2].removeprefix("test_")
 
 
 def words_of(kind: type[unittest.TestCase]) -> list[str]:
-    """The words of a class's tests, in their order there."""
+    """Returns the words of a class's tests, in the order of their definitions."""
     return [name.removeprefix("test_") for name in vars(kind) if name.startswith("test_")]
 
 
 def run(*kinds: type[unittest.TestCase], words: Iterable[str] = ()) -> int:
-    """Runs the tests of some classes, all or those of some words, and gives the status for the system."""
+    """Runs all tests of the given classes, or only those with the given words, and returns the exit status."""
     Checked.is_told = True
     every = [(kind, word) for kind in kinds for word in words_of(kind)]
     chosen = [(kind, one) for word in words for kind, one in every if one == word]
@@ -128,7 +128,7 @@ def run(*kinds: type[unittest.TestCase], words: Iterable[str] = ()) -> int:
 
 
 def need(*kinds: type[Server] | type[Group] | type[Gateway]) -> None:
-    """Ends a test at once where one of its programs isn't there."""
+    """Exits at once if one of these programs isn't built."""
     for kind in kinds:
         if not os.access(kind.program, os.X_OK):
             raise SystemExit(f"{kind.program} isn't there: ./coordinator builds it")

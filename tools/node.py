@@ -1,4 +1,4 @@
-"""Nodes of a coordinator that run: requests to them, what they show, and their processes."""
+"""Running nodes of a coordinator: requests to them, what they show, and their processes."""
 import contextlib
 import http.client
 import json
@@ -16,15 +16,15 @@ from tools import repo
 from tools.ports import HOST, free_row, is_open
 
 Json = typing.Any
-# How long a node may take to start, to answer or to end, in seconds: two of them may share a slow processor with a
-# compiler.
+# How many seconds a node may take to start, to answer or to end. It is long because two nodes may share a slow
+# processor with a compiler.
 SLOW = 90
-# With what a node refuses between two runs, so that it is asked again.
+# What a node refuses with between two runs. Such a request is repeated.
 BETWEEN_RUNS = ("E20",)
 
 
 class Answer(typing.NamedTuple):
-    """An answer: its status, its fields, and its body as text."""
+    """An answer: its status, its header fields, and its body as text."""
 
     status: int
     fields: dict[str, str]
@@ -36,7 +36,7 @@ class Answer(typing.NamedTuple):
 
 def request(address: tuple[str, int], method: str, path: str, body: str | None = None,
             fields: Mapping[str, str] | None = None, inside: contextlib.AbstractContextManager | None = None) -> Answer:
-    """One request over a connection of its own, which is made inside something where that is given."""
+    """Makes one request over a connection of its own. If `inside` is given, the connection is made in that context."""
     connection = http.client.HTTPConnection(*address, timeout=SLOW)
     try:
         with inside or contextlib.nullcontext():
@@ -49,14 +49,14 @@ def request(address: tuple[str, int], method: str, path: str, body: str | None =
 
 
 def fetch(url: str) -> Answer:
-    """The answer to a question at a URL."""
+    """Returns the answer to a GET of a URL."""
     parts = urllib.parse.urlsplit(url)
     return request((parts.hostname or HOST, parts.port or 80), "GET",
                    urllib.parse.urlunsplit(("", "", *parts[2:4], "")))
 
 
 def exchange(address: tuple[str, int], *pieces: bytes, pause: float = 0) -> bytes:
-    """Sends the pieces of a request, with pauses between them, and gives all bytes that come back until the other
+    """Sends the pieces of a request with pauses between them, and returns all bytes that come back until the peer
     closes."""
     with socket.create_connection(address, 30) as line:
         for number, piece in enumerate(pieces):
@@ -66,8 +66,8 @@ def exchange(address: tuple[str, int], *pieces: bytes, pause: float = 0) -> byte
 
 
 def ask(port: int, method: str, path: str, body: Json = None, again: Iterable[str] = BETWEEN_RUNS) -> tuple[int, Json]:
-    """One request with a body of JSON; the status and the JSON of its answer. What is refused with one of `again` is
-    asked again."""
+    """Makes one request with a JSON body, and returns the status and the JSON of its answer. A request that is refused
+    with one of `again` is repeated."""
     while True:
         answer = request((HOST, port), method, path, None if body is None else json.dumps(body))
         if not (answer.status == 503 and any(word in answer.text for word in again)):
@@ -75,7 +75,7 @@ def ask(port: int, method: str, path: str, body: Json = None, again: Iterable[st
 
 
 def comes_to(seconds: float, is_so: Callable[[], object]) -> bool:
-    """Whether something comes to be so within a time."""
+    """Waits until something is true, and returns whether it became true in time."""
     end = time.monotonic() + seconds
     while not is_so():
         if time.monotonic() > end:
@@ -85,13 +85,13 @@ def comes_to(seconds: float, is_so: Callable[[], object]) -> bool:
 
 
 def wait_for(port: int, seconds: float = 20) -> None:
-    """Waits until somebody listens at a port."""
+    """Waits until something listens at a port."""
     if not comes_to(seconds, lambda: is_open(port)):
-        raise SystemExit(f"nobody listens at {port}")
+        raise SystemExit(f"nothing listens at port {port}")
 
 
 def home_of(lra: str) -> int:
-    """The node whose LRA it is, whose number stands in the id: 00000000-0000-8002-.. is of node 2."""
+    """Returns the home node of an LRA. Its number stands in the id: 00000000-0000-8002-.. belongs to node 2."""
     return int(lra[15:18], 16)
 
 
@@ -100,49 +100,49 @@ def in_ms(seconds: float | None) -> str:
 
 
 def memory_of(process: subprocess.Popen, what: str = "VmHWM") -> float:
-    """The resident memory of a process in MiB: now (VmRSS), or the most that it had (VmHWM)."""
+    """Returns the resident memory of a process in MiB: the present amount (VmRSS) or the peak (VmHWM)."""
     with open(f"/proc/{process.pid}/status", encoding="utf-8") as file:
         return int(repo.found(rf"{what}:\s+(\d+)", file.read())[1]) / 1024
 
 
 def limit_files(process: subprocess.Popen, size: int) -> None:
-    """Has a process write no further than that into any file; -1 for no bound."""
+    """Limits the size to which a process may write any file; -1 removes the limit."""
     hard = resource.prlimit(process.pid, resource.RLIMIT_FSIZE)[1]
     resource.prlimit(process.pid, resource.RLIMIT_FSIZE, (hard if size < 0 else size, hard))
 
 
 def end_input(process: subprocess.Popen) -> None:
-    """Ends the input of a process, with which the programs end."""
+    """Closes the standard input of a process, which makes our programs end."""
     if process.stdin:
         process.stdin.close()
 
 
 def without_starts(text: str) -> str:
-    """What stood on standard error, without the lines that say where a node listens."""
+    """Returns standard error without the lines that say where a node listens."""
     return re.sub(r"^\[INFO .*\] node \d: listens on [0-9.:\[\]]+\n", "", text, flags=re.M)
 
 
 class Nodes:
-    """Some nodes, numbered from 1, each at a port of its own. A client calls them, and looks at what they show."""
+    """Several nodes, numbered from 1, each at a port of its own. A client calls them and looks at what they show."""
 
     ports: Sequence[int]
     again: tuple[str, ...] = BETWEEN_RUNS
 
     def address(self, node: int) -> tuple[str, int]:
-        """Where a client reaches a node."""
+        """Returns the address at which a client reaches a node."""
         return HOST, self.ports[node - 1]
 
     def inside(self, node: int) -> contextlib.AbstractContextManager:
-        """Where a connection to a node is made (wire.py)."""
+        """Returns the context in which a connection to a node is made (wire.py)."""
         return contextlib.nullcontext()
 
     def is_reached(self, node: int) -> bool:
-        """Whether a node takes connections."""
+        """Whether a node accepts connections."""
         return is_open(self.ports[node - 1])
 
     def ask(self, node: int, method: str, path: str, body: Json = None) -> tuple[int, Json]:
-        """One request; its status and the JSON of its body. One that meets the end of a run is made again, for as long
-        as a node may take to answer."""
+        """Makes one request, and returns its status and the JSON of its body. A request that meets the end of a run is
+        repeated, for as long as a node may take to answer."""
         text, end = None if body is None else json.dumps(body), time.monotonic() + SLOW
         while True:
             answer = request(self.address(node), method, path, text, inside=self.inside(node))
@@ -163,7 +163,7 @@ class Nodes:
         return self.ask(node, "DELETE", f"/lra/{lra}")
 
     def status(self, node: int, lra: str) -> str | None:
-        """What a node shows of an LRA, or with what it refuses to."""
+        """Returns the status that a node shows of an LRA, or the error with which it refuses to."""
         answer = self.ask(node, "GET", f"/lra/{lra}")[1]
         return answer.get("status") or answer.get("refused")
 
@@ -171,17 +171,17 @@ class Nodes:
         return self.status(node, lra) == "E3 NotHeld"
 
     def comes_to(self, node: int, lra: str, status: str, seconds: float = 30) -> float | None:
-        """After how many seconds a node shows this, or nothing where it doesn't."""
+        """Returns after how many seconds a node shows this status, or `None` if it doesn't in time."""
         began = time.monotonic()
         return time.monotonic() - began if comes_to(seconds, lambda: self.status(node, lra) == status) else None
 
     def all_come_to(self, lra: str, status: str, nodes: Iterable[int] = (1, 2, 3)) -> float | None:
-        """After how many seconds all show it, or nothing."""
+        """Returns after how many seconds all nodes show this status, or `None` if one doesn't in time."""
         times = [self.comes_to(node, lra, status) for node in nodes]
         return None if None in times else sum(time or 0 for time in times)
 
     def shown(self, node: int = 1) -> dict[str, str]:
-        """All LRAs that a node shows, with their statuses."""
+        """Returns all LRAs that a node shows, with their statuses."""
         lras: dict[str, str] = {}
         after: str | None = ""
         while after is not None:
@@ -191,7 +191,7 @@ class Nodes:
         return lras
 
     def shown_at_home(self) -> dict[str, str]:
-        """All LRAs as their homes show them."""
+        """Returns all LRAs, each with the status that its home shows."""
         nodes = range(1, len(self.ports) + 1)
         return {lra: status for node in nodes for lra, status in self.shown(node).items() if home_of(lra) == node}
 
@@ -201,7 +201,8 @@ class Nodes:
 
 
 class Server(Nodes):
-    """Nodes in one process, over one folder. At its end as a context it is killed, unless it has ended."""
+    """Nodes in one process, over one folder. As a context manager it kills the process on exit, unless that has
+    ended."""
 
     program = repo.program("lra_node")
 
@@ -221,13 +222,13 @@ class Server(Nodes):
         return self.process.poll() is None
 
     def is_up(self) -> bool:
-        """Whether all nodes take connections within a minute; not if the program has ended."""
+        """Whether all nodes accept connections within a minute. False if the program has ended."""
         is_over = comes_to(60, lambda: not self.is_running() or all(map(is_open, self.ports)))
         return is_over and self.is_running()
 
     def wait_until_up(self) -> typing.Self:
         if not self.is_up():
-            raise SystemExit(f"the server doesn't come up: {self.end()}")
+            raise SystemExit(f"the server doesn't start: {self.end()}")
         return self
 
     def kill(self) -> None:
@@ -236,7 +237,8 @@ class Server(Nodes):
             self.process.communicate()
 
     def end(self) -> tuple[int, str]:
-        """Ends the input, and gives the status and what stood on standard error, but for where the nodes listen."""
+        """Closes standard input, and returns the exit status and standard error, without the lines that say where the
+        nodes listen."""
         text = self.process.communicate(timeout=60)[1] or b""
         return self.process.returncode, without_starts(text.decode())
 
@@ -262,12 +264,12 @@ class Group(Nodes):
         self.kill(*[number for number, process in self.processes.items() if process.poll() is None])
 
     def addresses_for(self, number: int) -> list[str]:
-        """Where a node finds itself and the others."""
+        """Returns the addresses that a node is given for itself and its peers."""
         return self.addresses
 
     def run(self, number: int, options: Iterable[str] | None = None, word: str | None = None) -> None:
-        """Starts a process, for one node or for those that a word names, and doesn't wait for it. As for Python itself
-        a write beyond a limit on files is an error there, and no end."""
+        """Starts a process for one node, or for the nodes that `word` names, and doesn't wait for it. As Python itself
+        does, it ignores SIGXFSZ, so that a write beyond a file limit fails and doesn't kill the process."""
         given = self.options if options is None else options
         chosen, folder = word or str(number), f"{self.folder}/{number}"
         words = [self.program, "member", chosen, folder, *given, *self.addresses_for(number)]
@@ -275,7 +277,7 @@ class Group(Nodes):
             self.processes[number] = subprocess.Popen(words, stdin=subprocess.PIPE, stderr=log, restore_signals=False)
 
     def start(self, *numbers: int, options: Iterable[str] | None = None, word: str | None = None) -> typing.Self:
-        """Starts nodes, all if none is named, and waits until they take connections."""
+        """Starts these nodes, or all if none is named, and waits until they accept connections."""
         chosen = numbers or range(1, len(self.ports) + 1)
         for number in chosen:
             self.run(number, options, word)
@@ -283,11 +285,11 @@ class Group(Nodes):
             process = self.processes[number]
             comes_to(SLOW, lambda: process.poll() is not None or self.is_reached(number))
             if process.poll() is not None or not self.is_reached(number):
-                raise SystemExit(f"node {number} doesn't come up: {self.log(number)}")
+                raise SystemExit(f"node {number} doesn't start: {self.log(number)}")
         return self
 
     def whole_log(self, number: int) -> str:
-        """What a node told on standard error."""
+        """Returns what a node logged on standard error."""
         with open(f"{self.folder}/{number}.log", encoding="utf-8") as file:
             return file.read()
 
@@ -295,7 +297,7 @@ class Group(Nodes):
         return without_starts(self.whole_log(number))
 
     def lines(self, number: int) -> list[str]:
-        """What a node told, without the level and the place of the code."""
+        """Returns the lines that a node logged, without the level and the code location."""
         return [re.sub(r"^\[WARN +\w+(?:::\w+)+\] ", "", line) for line in self.log(number).splitlines()]
 
     def kill(self, *numbers: int) -> None:
@@ -305,7 +307,7 @@ class Group(Nodes):
             self.processes[number].communicate()
 
     def end(self, *numbers: int) -> list[int]:
-        """Ends the input of each, and gives their statuses."""
+        """Closes the standard input of each node, and returns their exit statuses."""
         chosen = numbers or list(self.processes)
         for number in chosen:
             end_input(self.processes[number])

@@ -1,4 +1,4 @@
-"""A participant that tests and demonstrations have: what it answers, and which calls came."""
+"""A participant for tests and demonstrations, which answers calls and records them."""
 import http.server
 import sys
 import threading
@@ -8,13 +8,13 @@ from email.message import Message
 
 from tools.ports import HOST
 
-# What a call is answered: a status, perhaps with a body.
+# The answer to a call: a status, perhaps with a body.
 Reply = int | tuple[int, bytes]
 
 
 class Call(typing.NamedTuple):
-    """A call: of which LRA, whether it tells of that one's end, its fields and its body, what it was answered, and when
-    it came."""
+    """A call: its LRA, whether it reports that LRA's end, its header fields and body, how it was answered, and when it
+    came."""
 
     method: str
     path: str
@@ -27,13 +27,13 @@ class Call(typing.NamedTuple):
 
 
 def chunks_of(body: bytes) -> bytes:
-    """A body in two chunks, or as many as it has bytes for, and the last one."""
+    """Returns a body as two chunks, or as one or none if it is too short for two, and the last chunk."""
     pieces = [piece for piece in (body[:3], body[3:]) if piece]
     return b"".join(b"%x\r\n%s\r\n" % (len(piece), piece) for piece in pieces) + b"0\r\n\r\n"
 
 
 class QuietServer(http.server.ThreadingHTTPServer):
-    """Says nothing of a client that is gone."""
+    """An HTTP server that prints nothing about a client that has disconnected."""
 
     request_queue_size = 256
 
@@ -43,8 +43,9 @@ class QuietServer(http.server.ThreadingHTTPServer):
 
 
 class Participant:
-    """Listens, answers a call with what `answers` has for its path, else with a status, and remembers the call once its
-    answer is known. In chunks it answers as many servers do: a body comes in two, and the connection stays open."""
+    """Listens, answers each call with the entry of `answers` for its path, or with `status` if there is none, and
+    records the call once its answer is known. With `in_chunks` it answers as many servers do: the body comes in two
+    chunks, and the connection stays open."""
 
     def __init__(self, port: int = 0, status: int = 200, pause: float = 0, in_chunks: bool = False) -> None:
         self.status, self.pause, self.in_chunks = status, pause, in_chunks
@@ -54,7 +55,7 @@ class Participant:
         self.open()
 
     def open(self) -> None:
-        """Begins to listen: at its port, or at a free one, which is its own from then on."""
+        """Begins to listen at its port, or at a free one, which it keeps from then on."""
         participant = self
 
         class Handler(http.server.BaseHTTPRequestHandler):
@@ -82,12 +83,12 @@ class Participant:
         threading.Thread(target=self.server.serve_forever, args=(0.05,), daemon=True).start()
 
     def close(self) -> None:
-        """Closes its port. It may be opened again."""
+        """Closes its port. It can be opened again."""
         self.server.shutdown()
         self.server.server_close()
 
     def hear(self, method: str, path: str, fields: Message, body: bytes) -> tuple[int, bytes]:
-        """Remembers a call, and answers it after the pause."""
+        """Records a call, and answers it after the pause."""
         ended = fields.get("Long-Running-Action-Ended")
         lra = (fields.get("Long-Running-Action") or ended or "").removeprefix("urn:uuid:")
         answer = self.answer(path, lra, fields, body)
@@ -97,21 +98,21 @@ class Participant:
         return code, text
 
     def answer(self, path: str, lra: str, fields: Message, body: bytes) -> Reply:
-        """What a call is answered. A service has its own."""
+        """Returns the answer to a call. A service overrides this."""
         return self.answers.get(path, self.status)
 
     def paths(self) -> list[str]:
-        """The paths of all calls, in order."""
+        """Returns the paths of all calls, in order."""
         return [call.path for call in self.calls]
 
     def ends(self) -> list[Call]:
-        """The calls that tell of an end, in order."""
+        """Returns the calls that report an end, in order."""
         return [call for call in self.calls if call.is_end]
 
     def made(self, lra: str) -> list[tuple[str, str]]:
-        """The calls of an LRA: methods and paths, in order."""
+        """Returns the methods and paths of an LRA's calls, in order."""
         return [(call.method, call.path) for call in self.calls if call.lra == lra]
 
     def time_of(self, path: str, code: int) -> float | None:
-        """When a path was first answered so, or nothing."""
+        """Returns the time of the first call to a path that was answered with this status, or `None`."""
         return next((call.at for call in self.calls if (call.path, call.code) == (path, code)), None)
