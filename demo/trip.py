@@ -2,9 +2,9 @@
 """Five services book trips with a coordinator of three nodes, which this starts: python3 demo/trip.py [PROGRAM]
 
 PROGRAM is crates/lra_node/out/lra_node, which ./coordinator builds, or --unproved (tools/unproved.py). A trip is an
-LRA. The order begins it and asks hotel, flight and payment over HTTP; each joins it, and the coordinator calls each
-when the trip ends. The mail joins to hear what became of it. The exit status is 1 where anything differs from what must
-be. Standard library alone; a few seconds."""
+LRA. The order begins it and calls hotel, flight and payment over HTTP. Each of them joins it, and the coordinator calls
+each when the trip ends. The mail joins to be notified of what became of it. Exits with 1 if anything differs from what
+is expected. Uses only the standard library; takes a few seconds."""
 import io
 import json
 import os
@@ -28,7 +28,8 @@ ALL = ("order", "hotel", "flight", "payment")
 
 def call(method: str, port: int, path: str, body: Json = None, lra: str = "",
          wants: Iterable[int] = (200, 201, 204)) -> Json:
-    """One request, and the JSON of its answer. A node between two runs answers E20, and is asked again."""
+    """Makes one request, and returns the JSON of its answer. A node between two runs answers E20, and is asked
+    again."""
     fields = {"Long-Running-Action": f"urn:uuid:{lra}"} if lra else {}
     for _ in range(100):
         answer = request((HOST, port), method, path, json.dumps(body) if body else None, fields)
@@ -37,11 +38,11 @@ def call(method: str, port: int, path: str, body: Json = None, lra: str = "",
         if "E20 RunFull" not in answer.text:
             break
         time.sleep(0.02)
-    raise RuntimeError(f"{method} {path} at port {port} is answered {answer.status} {answer.text}")
+    raise RuntimeError(f"{method} {path} at port {port} was answered with {answer.status} {answer.text}")
 
 
 class Service(Participant):
-    """A participant with a port of its own. It keeps what it booked by the LRA, and takes the same call twice."""
+    """A participant with a port of its own. It keeps a state for each LRA, and accepts repeated calls."""
 
     def __init__(self, name: str, port: int, travel: "Travel") -> None:
         self.name, self.travel = name, travel
@@ -54,7 +55,7 @@ class Service(Participant):
         return code, text.encode()
 
     def book(self, lra: str, stay: str | None = None, card: str | None = None) -> tuple[int, str]:
-        """What the order asks for: a code and a text. For a stay the hotel begins an LRA inside the trip, and closes
+        """Answers the order with a code and a text. For a stay the hotel begins an LRA inside the trip, and closes
         it."""
         if stay:
             own = self.travel.begin(3, "Its stay", stay, parent=lra)
@@ -71,8 +72,8 @@ class Service(Participant):
         return 402 if card else 200, ""
 
     def act(self, act: str, lra: str, where: str) -> tuple[int, str]:
-        """What the coordinator calls for: a code and a text. The hotel needs time, and has compensated when it is asked
-        again. Who was asked to compensate ignores a complete that comes late."""
+        """Answers the coordinator with a code and a text. The hotel needs time to compensate, and has done so when it
+        is asked again. A service that was asked to compensate ignores a complete that comes late."""
         with self.travel.lock:
             was = self.states[lra]
             if act == "complete" and was.startswith("Compensat"):
@@ -87,7 +88,7 @@ class Service(Participant):
 
 
 class Listener(Participant):
-    """Hears of each LRA what it became, and takes the same call twice."""
+    """Is notified of what each LRA became, and accepts repeated calls."""
 
     def __init__(self, port: int) -> None:
         self.heard: dict[str, str] = {}
@@ -102,8 +103,8 @@ class Listener(Participant):
 
 
 class Travel:
-    """A coordinator of three nodes, and the scenes. Its process ends with its standard input, so also when this one is
-    killed."""
+    """A coordinator of three nodes, and the scenes. Its process ends when its standard input does, and so also when
+    this program is killed."""
 
     def __init__(self, folder: str) -> None:
         *self.ports, first, _, _, _, last = free_row(8)
@@ -111,7 +112,7 @@ class Travel:
         self.titles: dict[str, str] = {}
         self.ends: dict[str, str] = {}
         self.lock = threading.Lock()
-        self.calls: list[str] = []  # what the services were called for
+        self.calls: list[str] = []  # what the coordinator called the services for
         self.mail = Listener(last)
         self.services = {name: Service(name, port, self) for port, name in enumerate(ALL, first)}
         self.start()
@@ -119,10 +120,10 @@ class Travel:
     def start(self) -> None:
         self.server = Server(3, self.folder, self.ports, stderr=None, start_new_session=True)
         if not self.server.is_up():
-            raise SystemExit("WRONG: the coordinator doesn't start.")
+            raise SystemExit("WRONG: the coordinator didn't start.")
 
     def at_home(self, method: str, lra: str, tail: str = "", body: Json = None) -> Json:
-        """Asks the LRA's home."""
+        """Makes a request to the LRA's home."""
         return call(method, self.ports[home_of(lra) - 1], f"/lra/{lra}{tail}", body)
 
     def begin(self, node: int, title: str, end: str, parent: str | None = None) -> str:
@@ -134,8 +135,8 @@ class Travel:
         return call("POST", self.services[name].port, "/book", wish, lra, wants)
 
     def trip(self, title: str, node: int, end: str, *names: str) -> str:
-        """The order begins a trip and joins it first, so it is the last to be compensated. Then those join that are
-        named."""
+        """Lets the order begin a trip and join it first, so that it is the last to be compensated. Then the named
+        services join."""
         print(f"\n{title}\n  The order begins a trip at node {node}.")
         trip = self.begin(node, title, end)
         for name in ("order", *names):
@@ -154,8 +155,8 @@ class Travel:
 
     def becomes(self, lra: str, status: str, *calls: str, what: str = "trip", in_order: bool = False,
                 mails: Iterable[str] = ()) -> None:
-        """Waits until the LRA shows the status and the services were called so, and tells both. Compensations come in
-        order. Of each LRA of `mails` the mail hears what it became, in whatever order."""
+        """Waits until the LRA shows the status and the services have been called like this, and prints both.
+        Compensations come in order. The mail is notified of what each LRA of `mails` became, in any order."""
         wanted = {one: self.ends[one] for one in mails}
         comes_to(30, lambda: self.at_home("GET", lra)["status"] == status and len(self.calls) >= len(calls)
                  and len(self.mail.heard) >= len(wanted))
@@ -170,8 +171,8 @@ class Travel:
             name = "stay" if self.titles[one] == "Its stay" else "trip"
             print(f"  The mail hears that the {name} is {heard.get(one, 'not ended')}.")
         if (came, shown) != (calls, status) or heard != wanted:
-            must = f"{', '.join(calls)}, {what} is {status}, and the mail hears of {len(wanted)}"
-            raise SystemExit(f"WRONG: it must be: {must}.")
+            must = f"{', '.join(calls)}, {what} is {status}, and the mail hears of {len(wanted)} LRAs"
+            raise SystemExit(f"WRONG: expected: {must}.")
 
     def booked(self) -> None:
         trip = self.trip("A trip that is booked", 1, "Closed", "hotel", "flight", "payment")
@@ -221,7 +222,7 @@ class Travel:
         self.becomes(trip, "Closed", *(f"{name} is completed" for name in ALL), mails=[trip])
 
     def agree(self) -> None:
-        """Asks every node for every LRA. Each has heard of all within a few seconds."""
+        """Asks every node for every LRA. Each node has learned of all of them within a few seconds."""
         nodes = (1, 2, 3)
         print("\nThe three nodes are asked for every LRA")
         is_so = comes_to(30, lambda: all(self.server.shown(node) == self.ends for node in nodes))
@@ -231,11 +232,11 @@ class Travel:
             print(f"  {title}: {', '.join(lras.get(lra, 'not there') for lras in shown)}.")
         if not is_so or self.server.end()[0] != 0:
             ends = ", ".join(self.ends.values())
-            raise SystemExit(f"WRONG: it must be {ends}, no calls but those above, and an end with status 0.")
+            raise SystemExit(f"WRONG: expected {ends}, no calls but those above, and exit status 0.")
         print("\nAll is as it must be.")
 
     def play(self) -> None:
-        """All scenes, and then the question to each node."""
+        """Plays all scenes, and then asks each node."""
         self.booked()
         self.refused()
         self.nested("close", "Closed", "order is completed", "flight is completed", "payment is completed",

@@ -1,10 +1,10 @@
 #!/usr/bin/env python3
-"""Tests what ./coordinator makes of its words before any build: python3 tests/coordinator.py. Standard library alone;
-some seconds.
+"""Tests how ./coordinator handles its arguments before any build: python3 tests/coordinator.py. Uses only the standard
+library; takes some seconds.
 
-An `rt` stands first in PATH that tells that it was called, so a build that begins is seen. Then such an `rt` stands in
-for the kit's, in a repository that isn't one, to see what is said while a proof runs. Each check prints a line; the
-status is 1 where one fails."""
+First in PATH comes a fake `rt` that records that it was called, so a build that begins is noticed. Other fakes then
+stand in for the kit's `rt` in a made-up repository, to test what is printed while a proof runs. Each check prints a
+line. Exits with 1 if a check fails."""
 import contextlib
 import io
 import os
@@ -25,13 +25,14 @@ from tools.ports import free_row, is_free, listens_at
 from tools.repo import TOP
 
 USAGE = "usage: ./coordinator [--unproved] [--operate PORT] [--keep MS] [--keep-failed MS] N PORT DIR"
-# An rt that tells that it was called.
+# An rt that records that it was called.
 TELL = """#!/bin/sh
 echo "rt was called: $*" >&2
 touch "$(dirname "$0")/called"
 exit 99
 """
-# What rt prints of a build that takes a moment, and what the program says to words that it doesn't take.
+# An rt that takes a moment, and prints what rt prints of a build and what the program prints when its arguments are
+# wrong.
 BUILD = """#!/bin/sh
 echo 'statements std: modules loaded=1 checked=0'
 echo 'so far: 3 of 8 functions checked'
@@ -41,7 +42,7 @@ case "$1 $(basename "$PWD")" in
 'run '*) echo '{last}' >&2; exit 2 ;;
 esac
 """
-# An rt that builds the program of its folder, which tells its words and hands on its input.
+# An rt that builds a program for its folder. The program prints its arguments and copies its input.
 BUILD_ANOTHER = """#!/bin/sh
 if [ "$1" = lib ]; then exit; fi
 name=$(basename "$PWD")
@@ -55,7 +56,7 @@ chmod +x "out/$name"
 exec "out/$name" serve 0 0 .
 """
 
-# Words, and what comes of them: the status, and the first line of each output.
+# Arguments and what they must lead to: the exit status, and the first line of standard output and of standard error.
 Case = tuple[list[str], int, str, str]
 
 
@@ -68,7 +69,7 @@ def status_of(wrong: tuple[int, str] | None) -> int:
 
 
 def with_options(cases: Iterable[Case], apart: str) -> Iterator[Case]:
-    """Each case behind no option and behind some that are right."""
+    """Yields each case behind no option and behind several valid ones."""
     both = ["--keep-failed", "1", "--keep", "1"]
     ways: list[list[str]] = [[], ["--unproved"], ["--unproved", *both], ["--keep", "1", "--operate", apart]]
     for given, status, out, errors in cases:
@@ -77,19 +78,19 @@ def with_options(cases: Iterable[Case], apart: str) -> Iterator[Case]:
 
 
 def of_operators(folder: str, first: str, apart: str, in_use: str) -> Iterator[Case]:
-    """Ports for operators that are in use, are none, or are nodes' own."""
+    """Yields cases of ports for operators that are in use, invalid, or nodes' own."""
     yield ["--operate", first, "2", apart, folder], 1, "", in_use
     for word in ("80", "65529", "08170", ""):
         wrong = f"PORT of --operate has to be a number from 1024 to 65528, not {word!r}"
         yield ["--operate", word, "3", "8070", folder], 2, "", coordinator(wrong)
     same = [("8070", "8070", 8070), ("8072", "8070", 8072), ("8070", "8072", 8072), ("65528", "65526", 65528)]
     for ours, theirs, both in same:
-        wrong = f"port {both} would be a node's own, and one for operators"
+        wrong = f"port {both} would be both a node's own port and one for operators"
         yield ["--operate", ours, "3", theirs, folder], 2, "", coordinator(wrong)
 
 
 def of_times(folder: str) -> Iterator[Case]:
-    """Times that are none."""
+    """Yields cases of invalid times."""
     times = [("--keep", "01"), ("--keep", "8070s"), ("--keep-failed", "-1"), ("--keep-failed", "18446744073709551616")]
     for option, word in times:
         wrong = f"MS of {option} has to be a number of milliseconds, not '{word}'"
@@ -98,20 +99,20 @@ def of_times(folder: str) -> Iterator[Case]:
 
 class TestWords(checks.Checked):
     def write_rt(self, text: str) -> None:
-        """Puts an rt into the folder."""
+        """Puts a fake rt into the folder."""
         repo.write(f"{self.folder}/rt", text)
         os.chmod(f"{self.folder}/rt", 0o755)
 
     def environment(self) -> dict[str, str]:
-        """An environment in which that rt comes first."""
+        """Returns an environment in which the fake rt comes first."""
         return {**os.environ, "PATH": f"{self.folder}:{os.environ['PATH']}"}
 
     def test_words(self) -> None:
-        """What comes of words."""
+        """Arguments lead to the expected status and messages, and start no build."""
         self.write_rt(TELL)
         folder = self.folder
         with socket.create_server(("127.0.0.1", 0)) as other:
-            # It is the second node's port, unless somebody has the one before it too.
+            # This is the second node's port, unless the port before it is taken too.
             taken = other.getsockname()[1]
             first, apart = str(taken - is_free(taken - 1)), str(free_row(3)[0])
             in_use, none = coordinator(f"port {taken} is in use"), f"{folder}/none"
@@ -129,16 +130,16 @@ class TestWords(checks.Checked):
         self.check("no build began", not os.path.exists(f"{folder}/called"))
 
     def try_words(self, cases: list[Case]) -> None:
-        """Runs ./coordinator with the words of each case, all at once."""
+        """Runs ./coordinator with the arguments of each case, all at once."""
         runs = [subprocess.Popen([f"{TOP}/coordinator", *given], env=self.environment(), stdin=subprocess.DEVNULL,
                                  stdout=subprocess.PIPE, stderr=subprocess.PIPE, text=True) for given, *_ in cases]
         for run, (given, *wanted) in zip(runs, cases):
             out, errors = run.communicate()
             seen = [run.returncode, out.split("\n")[0], errors.split("\n")[0]]
-            self.check(f"./coordinator {' '.join(given)}", seen == wanted, f"{seen}, where {wanted} is wanted")
+            self.check(f"./coordinator {' '.join(given)}", seen == wanted, f"{seen} instead of {wanted}")
 
     def test_numbers(self) -> None:
-        """Numbers are read as the server reads them, and words are counted."""
+        """Numbers are read as the server reads them."""
         right, file = ("3", "8070", self.folder), f"{self.folder}/rt"
         for word in ("0", "9", "03", "+3", " 3", "\u00b3", "three", "", "3\n"):
             self.check(f"N isn't {word!r}", status_of(start.wrong_with(word, *right[1:])) == 2)
@@ -153,7 +154,7 @@ class TestWords(checks.Checked):
             self.check(f"MS isn't {word!r}", status_of(start.wrong_with(*right, [("--keep", word)])) == 2)
 
     def test_pages(self) -> None:
-        """The commands of the pages are taken, as they stand there but for the folder."""
+        """The commands on the pages are accepted as they stand there, except for the folder."""
         found = [(page, line) for page in ("README.md", "docs/OPERATING.md", "demo/README.md")
                  for line in re.findall(r"^    (?:.* && )?\./coordinator ([^<\n]*)", repo.read(page), re.M)]
         self.check("the pages have six commands", len(found) == 6, found)
@@ -164,31 +165,31 @@ class TestWords(checks.Checked):
             self.check(f"{page}: ./coordinator {line}", wrong is None or wrong[1].endswith("is in use"), wrong)
 
     def test_count(self) -> None:
-        """Words of another count, or in another order, are told which, and the usage."""
+        """A wrong number or order of words is reported, with the usage."""
         right = ("3", "8070", self.folder)
         others: list[tuple[tuple[str, ...], str]] = [
-            (right[:2], "N, PORT and DIR are three words, not 2"), ((*right, "more"), "'more' is a word too many"),
-            (("--proved", *right), "'--proved' is no option"),
-            ((right[0], "--unproved", *right[1:]), "--unproved has to stand before N"),
-            (("--unproved", "--unproved", *right), "--unproved stands twice")]
+            (right[:2], "there have to be three words, N, PORT and DIR, and not 2"),
+            ((*right, "more"), "'more' is one word too many"), (("--proved", *right), "'--proved' isn't an option"),
+            ((right[0], "--unproved", *right[1:]), "--unproved has to come before N"),
+            (("--unproved", "--unproved", *right), "--unproved is given twice")]
         for option in ("--keep", "--keep-failed", "--operate"):
-            others += [((option,), f"{option} lacks its word"),
-                       ((option, *right), "N, PORT and DIR are three words, not 2"),
-                       ((option, "1", option, "1", *right), f"{option} stands twice"),
-                       ((*right, option, "1"), f"{option} has to stand before N")]
+            others += [((option,), f"{option} needs a value"),
+                       ((option, *right), "there have to be three words, N, PORT and DIR, and not 2"),
+                       ((option, "1", option, "1", *right), f"{option} is given twice"),
+                       ((*right, option, "1"), f"{option} has to come before N")]
         for given, why in others:
             with contextlib.redirect_stderr(io.StringIO()) as errors:
                 seen = start.main(list(given)), errors.getvalue()
             self.same(f"./coordinator {' '.join(given)}", (2, f"coordinator: {why}\n{start.USAGE}\n"), seen)
 
     def test_progress(self) -> None:
-        """What is said while the program is proved, and what where it isn't built."""
+        """While the program is proved, the progress is printed; if it can't be built, the reason is."""
         for name in ("lra_node", "lra_low", "lra_lowest"):
             os.makedirs(f"{self.folder}/crates/{name}")
         listed = "# Crates\nlra_node: lra_low url\nlra_low: lra_lowest\nlra_lowest: uuid\ntest_low: lra_low\n"
         repo.write(f"{self.folder}/crates.txt", listed)
         below = repo.below("lra_node", repo.crates(self.folder))
-        self.check("crates come as they are built", below == ["lra_lowest", "lra_low"], below)
+        self.check("crates come in build order", below == ["lra_lowest", "lra_low"], below)
         usage, other, refused = "usage: lra_node script N", "usage: lra_gateway listen", "error: not proved"
         for last, fails, shown in ((usage, "none", ""), (other, "none", other), (usage, "lra_low", refused)):
             self.write_rt(BUILD.format(last=last, fails=fails))
@@ -197,10 +198,11 @@ class TestWords(checks.Checked):
             self.check("it says which crate is proved", line, errors)
             at = "lra_low" if shown == refused else "lra_node"
             is_so = f"in crates/{at} to see why" in ended and shown in errors if shown else ended == ""
-            self.check("it says whether the program was built, and where it wasn't", is_so, ended + errors)
+            self.check("it says whether the program was built, and which crate failed", is_so, ended + errors)
 
     def proved_quickly(self) -> tuple[str, str]:
-        """How a proof of the folder's program ends, and what is said meanwhile, at each tenth of a second."""
+        """Returns how a proof of the folder's program ends, and what is printed meanwhile, at each tenth of a
+        second."""
         with contextlib.redirect_stderr(io.StringIO()) as errors, unittest.mock.patch.object(builds, "EACH", 0.1), \
                 unittest.mock.patch.dict(os.environ, self.environment()):
             try:
@@ -210,7 +212,8 @@ class TestWords(checks.Checked):
                 return str(error), errors.getvalue()
 
     def start_in(self, *options: str) -> tuple[int, str, str]:
-        """What comes of ./coordinator in a copy: the status, what it prints, and its last line on standard error."""
+        """Runs ./coordinator in a copy, and returns its exit status, what it prints, and its last line on standard
+        error."""
         port = free_row(2)[0]
         words = [f"{self.folder}/coordinator", *options, "2", str(port), self.folder]
         ran = subprocess.run(words, env=self.environment(), input="input\n", capture_output=True, text=True)
@@ -218,7 +221,7 @@ class TestWords(checks.Checked):
         return ran.returncode, printed, ran.stderr.split("\n")[-2:][0]
 
     def copy(self) -> None:
-        """A copy of ./coordinator, of what it needs, and of its program's first file."""
+        """Copies ./coordinator, the files that it needs, and its program's first file."""
         files = ["coordinator", "demo/start.py", "crates.txt", *repo.files("tools/*.py")]
         for file in [*files, "crates/lra_node/src/main.rt"]:
             os.makedirs(os.path.dirname(f"{self.folder}/{file}"), exist_ok=True)
@@ -227,8 +230,8 @@ class TestWords(checks.Checked):
             os.makedirs(f"{self.folder}/crates/{name}", exist_ok=True)
 
     def test_builds(self) -> None:
-        """A copy of ./coordinator builds the program once for a text, becomes it, and never runs that of another
-        text."""
+        """A copy of ./coordinator builds the program once for its source text, becomes it, and never runs a program
+        that was built from another text."""
         self.copy()
         ended, failed, addresses = ("--keep", "5"), ("--keep-failed", "7"), "127.0.0.1:PORT 127.0.0.1:NEXT"
         operators = str(free_row(2)[0])
@@ -245,7 +248,7 @@ class TestWords(checks.Checked):
             self.write_rt(BUILD_ANOTHER)
             right = (0, f"{line}\ninput\n")
             seen = self.start_in(*options)
-            self.check(f"{line.split()[0]} is there, and has the words of {options} and the input", seen[:2] == right,
+            self.check(f"{line.split()[0]} runs, with the words for {options} and the input", seen[:2] == right,
                        seen)
             self.write_rt("#!/bin/sh\nexit 1\n")
             seen = self.start_in(*options)
@@ -254,10 +257,11 @@ class TestWords(checks.Checked):
             file.write("// more\n")
         for options in ((), ended):
             seen = self.start_in(*options)
-            self.check("one of another text doesn't run", seen[:2] == (1, "") and "was not built" in seen[2], seen)
+            self.check("a program of other text doesn't run", seen[:2] == (1, "") and "was not built" in seen[2], seen)
 
     def test_ports(self) -> None:
-        """A server answers where it listens itself, and where another does it doesn't. What is said then."""
+        """A server counts as answering if it listens at its ports itself, and not if another process does. This is
+        reported."""
         with socket.create_server(("127.0.0.1", 0)) as own, subprocess.Popen(["sleep", "60"]) as other:
             port = own.getsockname()[1]
             itself = typing.cast(subprocess.Popen, types.SimpleNamespace(pid=os.getpid(), poll=lambda: None))
@@ -265,11 +269,11 @@ class TestWords(checks.Checked):
                 with contextlib.redirect_stderr(io.StringIO()) as errors:
                     start.tell_when_up(itself, [port], for_operators)
                 right = f"coordinator: port {port} answers. Ctrl-C ends it.\n{page}"
-                where = ", and where the page is" if page else ""
+                where = ", and gives the page's URL" if page else ""
                 self.check(f"it says that it answers{where}", errors.getvalue() == right, errors.getvalue())
             self.check("a process listens at its port", listens_at(os.getpid(), [port]))
-            self.check("and not at others", not listens_at(os.getpid(), [port, 1]))
-            self.check("another process doesn't listen there", not listens_at(other.pid, [port]))
+            self.check("but not at other ports", not listens_at(os.getpid(), [port, 1]))
+            self.check("another process doesn't listen at that port", not listens_at(other.pid, [port]))
             other.kill()
 
 

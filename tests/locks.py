@@ -1,10 +1,10 @@
 #!/usr/bin/env python3
-"""Checks that no thread takes a lock while it holds one: python3 tests/locks.py. Standard library alone.
+"""Checks that no thread takes a lock while it holds one: python3 tests/locks.py. Uses only the standard library.
 
-A function takes one if it says `.lock(`, or calls one that does. While a guard lives, from its `let` to the function's
-end, nothing may be called that takes a lock. Whose method is called is known by the receiver's last name, which is a
-parameter's, a field's or `self`; calls on values of other names, as on a guard, are on plain state. What lies under a
-lock has none itself. The status is 1 where a function breaks the rule."""
+A function takes a lock if it says `.lock(`, or calls a function that does. While a guard lives, from its `let` to the
+function's end, nothing may be called that takes a lock. The receiver's last name says whose method is called: that of a
+parameter or a field, or `self`. Calls on values of other names, such as a guard, are on plain state, and what a lock
+protects has no lock itself. Exits with 1 if a function breaks the rule."""
 import os
 import re
 import sys
@@ -19,13 +19,13 @@ CALL = re.compile(r"(?:(\w+)\s*\.\s*)?\b(\w+)\(")
 HEAD = re.compile(r"\bimpl\b[^{;]*?(?:\bfor\s+)?(\w+)(?:<[^{;]*>)?\s*(?:where[^{]*)?\{|\bfn (\w+)|^\}", re.M)
 FIELD = re.compile(r"\b(\w+): &?(?:'\w+ )?(?:mut )?(?:Arc<|Option<)?(\w+)")
 
-# Functions by their type ("" where they have none) and name.
+# Functions by type ("" if they have none) and name.
 Name = tuple[str, str]
 Functions = dict[Name, str]
 
 
 def bodies(text: str) -> Functions:
-    """Each function's body."""
+    """Returns each function's body."""
     text = re.sub(r"//[^\n]*|\"[^\"\n]*\"", "", text)
     found: Functions = {}
     owner, last = "", None
@@ -43,7 +43,7 @@ def bodies(text: str) -> Functions:
 
 
 def called(name: Name, body: str, functions: Functions, types: dict[str, str]) -> set[Name]:
-    """The functions of ours that a body calls."""
+    """Returns the functions of these crates that a body calls."""
     found = set()
     for receiver, method in CALL.findall(body):
         owner = name[0] if receiver == "self" else types.get(receiver, "?") if receiver else ""
@@ -52,7 +52,7 @@ def called(name: Name, body: str, functions: Functions, types: dict[str, str]) -
 
 
 def lockers(functions: Functions, types: dict[str, str]) -> set[Name]:
-    """The functions that take a lock."""
+    """Returns the functions that take a lock."""
     found = {name for name, body in functions.items() if ".lock(" in body}
     while more := {
         name for name, body in functions.items()
@@ -63,7 +63,7 @@ def lockers(functions: Functions, types: dict[str, str]) -> set[Name]:
 
 
 def broken(functions: Functions, types: dict[str, str]) -> list[str]:
-    """Which functions may take a lock while they hold one, and how."""
+    """Returns a line for each call that may take a lock while its function holds one."""
     locking, found = lockers(functions, types), []
     for name, body in functions.items():
         for guard in GUARD.finditer(body):
@@ -75,7 +75,7 @@ def broken(functions: Functions, types: dict[str, str]) -> list[str]:
 
 
 def all_functions() -> tuple[Functions, dict[str, str]]:
-    """The functions of the crates with threads, and of which type the fields and parameters of each name are."""
+    """Returns the functions of the crates with threads, and the type of the fields and parameters of each name."""
     texts = [repo.read(path) for crate in CRATES for path in repo.sources(crate)]
     functions = {name: body for text in texts for name, body in bodies(text).items()}
     owners = {owner for owner, _ in functions if owner}

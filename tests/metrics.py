@@ -1,9 +1,9 @@
 #!/usr/bin/env python3
-"""Reads what a node answers to GET /metrics (tools/metrics.py). Standard library alone.
+"""Tests the reader of a node's metrics (tools/metrics.py), or reads a node's. Uses only the standard library.
 
-python3 tests/metrics.py tries the reader, and looks whether demo/grafana.json and demo/alerts.yaml name metrics and
-labels that there are. python3 tests/metrics.py http://127.0.0.1:PORT/metrics reads a node's, and says what isn't as it
-has to be. The status is 1 where something is wrong."""
+python3 tests/metrics.py tests the reader, and checks that demo/grafana.json and demo/alerts.yaml name only metrics and
+labels that exist. python3 tests/metrics.py http://127.0.0.1:PORT/metrics reads a node's answer to GET /metrics, and
+reports what is wrong with it. Exits with 1 if something is wrong."""
 import json
 import math
 import os
@@ -24,7 +24,7 @@ def used_names(text: str) -> set[str]:
 
 
 def used_labels(text: str) -> set[str]:
-    """Labels that a query has in braces, behind by or without, or that a legend shows."""
+    """Returns the labels that a query has in braces or behind by or without, or that a legend shows."""
     inside = " ".join(re.findall(r"lra_\w+{([^}]*)}", text.replace('\\"', '"')))
     listed = " ".join(re.findall(r"\b(?:by|without|on|ignoring)\s*\(([\w, ]*)\)", text))
     shown = re.findall(r"{{\s*(\w+)\s*}}", text)
@@ -103,7 +103,7 @@ class TestReader(unittest.TestCase):
 
 
 class TestUse(unittest.TestCase):
-    """What Grafana and Prometheus are told has to name metrics, and labels, that there are."""
+    """The dashboard of Grafana and the alerts of Prometheus may name only metrics and labels that exist."""
 
     known = {"node", "job", "instance"} | {label for _, labels in METRICS.values() for label in labels}
 
@@ -149,12 +149,12 @@ class TestUse(unittest.TestCase):
 
 
 def look_at_node(url: str) -> int:
-    """Reads a node's metrics, says what isn't as it has to be, and gives the status for the system."""
+    """Reads a node's metrics, prints what is wrong with them, and returns the exit status."""
     answer = fetch(url)
     kind, text = answer.fields.get("Content-Type", ""), answer.text
     wrong = problems(text) + ([] if kind.startswith("text/plain; version=0.0.4") else [f"Content-Type is {kind}"])
     count = sum(map(len, samples(text).values())) if not wrong else 0
-    print("\n".join(wrong) or f"{len(samples(text))} metrics, {count} values: all as they have to be")
+    print("\n".join(wrong) or f"{len(samples(text))} metrics, {count} values, all as expected")
     return 1 if wrong else 0
 
 

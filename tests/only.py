@@ -1,14 +1,14 @@
 #!/usr/bin/env python3
-"""Proves some functions of a crate over whatever is built below it: `python3 tests/only.py CRATE FUNCTION..`, each
-FUNCTION a path as a check prints it, or its end, as `pulling::pull`. The first word that begins with -- and all behind
-it go to `rattle check`, as --allow-holes, --fix-imports or --jobs 1.
+"""Proves some functions of a crate over whatever is built below it: `python3 tests/only.py CRATE FUNCTION..`. Each
+FUNCTION is a path as a check prints it, or the end of one, such as `pulling::pull`. The first word that begins with --
+and all words behind it go to `rattle check`, such as --allow-holes, --fix-imports or --jobs 1.
 
-A library below the crate is taken as it stands built in crates/NAME/out/rlib here, or in the folders that BUILT names
-(as a clone in which `rt ci` runs), if it and all below it are built; else its sources are read, and of it only what the
-functions call is proved. So a function can be tried minutes after an edit below it, before anything is built: one of
-wire_pulls over sources took one to four minutes, where the chain below it takes twenty. SOURCE names libraries whose
-sources are read though they are built. It is no gate: nothing is said of the crate's other functions. The status is
-that of the check."""
+A library below the crate is used as built, from crates/NAME/out/rlib here or from the folders that BUILT names (such as
+a clone in which `rt ci` runs), if it and all below it are built. Otherwise its sources are read, and only what the
+functions call in it is proved. So a function can be tried minutes after an edit below it, before anything is built: a
+function of wire_pulls over sources took one to four minutes, while the chain below it takes twenty. SOURCE names
+libraries whose sources are read although they are built. This is no gate: it says nothing about the crate's other
+functions. Exits with the status of the check."""
 import os
 import subprocess
 import sys

@@ -1,8 +1,8 @@
 #!/usr/bin/env python3
-"""Compares docs/openapi.json with the code: python3 tests/openapi.py. Standard library alone.
+"""Compares docs/openapi.json with the code: python3 tests/openapi.py. Uses only the standard library.
 
-Each path and method of the one has to stand in the other's table (wire_api/src/path.rt, table.rt), with the words of
-statuses, acts and outcomes as state_ids prints them. The status is 1 where they differ."""
+The paths and methods must be the same in that file and in the code's table (wire_api/src/path.rt, table.rt), and so
+must the names of statuses, acts and outcomes, as state_ids prints them. Exits with 1 if they differ."""
 import json
 import os
 import re
@@ -13,21 +13,21 @@ from tools import checks, repo
 
 
 def calls_of_code() -> set[tuple[str, str]]:
-    """Each path and method of the table."""
+    """Returns each path and method of the table."""
     places = re.findall(r'router\.insert\("([^"]+)", Endpoint::(\w+)\)', repo.read("crates/wire_api/src/path.rt"))
     verbs = re.findall(r"\(Endpoint::(\w+), TableMethod::(\w+)\) => Some", repo.read("crates/wire_api/src/table.rt"))
     return {(path, verb.lower()) for path, place in places for of, verb in verbs if of == place}
 
 
 def words_of_code(kind: str, file: str) -> set[str]:
-    """The names that the code has for a type's values."""
+    """Returns the names that the code has for a type's values."""
     return set(re.findall(rf'{kind}::\w+ => "(\w+)"', repo.read(f"crates/state_ids/src/{file}.rt")))
 
 
 class TestInterface(checks.Checked):
     def alike(self, what: str, code: set, page: set) -> None:
-        self.check(what, code == page, f"\n  in the code alone: {sorted(code - page)}"
-                                       f"\n  in openapi.json alone: {sorted(page - code)}")
+        self.check(what, code == page, f"\n  only in the code: {sorted(code - page)}"
+                                       f"\n  only in openapi.json: {sorted(page - code)}")
 
     def setUp(self) -> None:
         super().setUp()
@@ -56,7 +56,7 @@ class TestInterface(checks.Checked):
             for verb, call in verbs.items():
                 references = [one["$ref"] for one in call.get("parameters", []) if "$ref" in one]
                 named = {given[reference.split("/")[-1]]["name"] for reference in references}
-                self.alike(f"{verb} {path}: its parameters", set(re.findall(r"{(\w+)}", path)), named)
+                self.alike(f"the parameters of {verb} {path}", set(re.findall(r"{(\w+)}", path)), named)
 
 
 if __name__ == "__main__":

@@ -1,11 +1,11 @@
 #!/usr/bin/env python3
-"""Does what README, docs/FORMATS.md and docs/HTTP.md say, and compares: python3 tests/readme.py [PROGRAM]. Standard
-library alone.
+"""Runs the examples in README, docs/FORMATS.md and docs/HTTP.md, and compares the results: python3 tests/readme.py
+[PROGRAM]. Uses only the standard library.
 
-PROGRAM is crates/lra_node/out/lra_node, which ./coordinator builds, or --unproved (tools/unproved.py). It runs each
-table of a script in FORMATS through `lra_node script N`; the curl lines, in one shell, against `lra_node serve` with
-the numbers that README has, beside the participant that README starts; and the calls that HTTP.md has byte by byte. The
-status is 1 where something else comes. The ports of README, 8070 to 8072 and 9001, have to be free."""
+PROGRAM is crates/lra_node/out/lra_node, which ./coordinator builds, or --unproved (tools/unproved.py). Each script
+table in FORMATS runs through `lra_node script N`. The curl lines run in one shell against `lra_node serve` with the
+numbers from README, beside the participant that README starts. The calls that HTTP.md shows byte by byte are sent.
+Exits with 1 if any result differs. The ports of README, 8070 to 8072 and 9001, have to be free."""
 import os
 import re
 import select
@@ -18,19 +18,19 @@ from tools import checks, repo, unproved
 from tools.node import Server, exchange, wait_for
 from tools.quick import printed_by, quick_start
 
-# A line of a script, with what it prints.
+# A line of a script, and what it prints.
 Row = tuple[str, str]
 
 
 def scripts() -> Iterator[tuple[int, list[Row]]]:
-    """Each script of FORMATS: how many nodes it has, and its lines with what they print."""
+    """Yields each script of FORMATS: how many nodes it has, and its lines with what they print."""
     for part in re.split(r"(?=With `script \d`)", repo.read("docs/FORMATS.md"))[1:]:
         rows = re.findall(r"^\| `(.+?)` \| `(.+?)` \|$", part.split("\n## ")[0], re.M)
         yield int(part[len("With `script ")]), rows
 
 
 def whole(message: str) -> str:
-    """A message with the empty line behind its head, where it has no body."""
+    """Returns a message with the empty line behind its head, if it has no body."""
     return message if "{" in message.split("\r\n")[-1] else f"{message}\r\n"
 
 
@@ -45,7 +45,7 @@ class TestPages(checks.Checked):
             for (line, wanted), seen in zip(rows, printed + [""] * len(rows)):
                 self.same(line, wanted, seen)
             ended = len(printed), ran.returncode
-            self.same(f"script {nodes} prints {len(rows)} lines, and ends well", (len(rows), 0), ended)
+            self.same(f"script {nodes} prints {len(rows)} lines, and exits with 0", (len(rows), 0), ended)
 
     def test_quick_start(self) -> None:
         start = quick_start()
@@ -68,10 +68,10 @@ class TestPages(checks.Checked):
             participant.kill()
             more = participant.communicate()[0]
         self.same("the participant is called once", "", more)
-        self.same("the server ends with its input", 0, server.end()[0])
+        self.same("the server ends when its input does", 0, server.end()[0])
 
     def test_calls(self) -> None:
-        """The requests of HTTP.md, in order, each with its answer."""
+        """The requests of HTTP.md get their answers, in order."""
         part = repo.found(r"## Each call, byte by byte\n(.*?)\n## ", repo.read("docs/HTTP.md"), re.S)[1]
         blocks = [block.replace("\n", "\r\n") for block in re.findall(r"^```\n(.*?)\n```$", part, re.M | re.S)]
         server = self.server(2, ports=(8070, 8071), stderr=None).wait_until_up()

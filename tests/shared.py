@@ -1,6 +1,6 @@
 #!/usr/bin/env python3
-"""Tests what the programs in Python share: python3 tests/shared.py. It needs no built program. The status is 1 where a
-test fails. Standard library alone."""
+"""Tests the code that the Python programs share: python3 tests/shared.py. It needs no built program. Exits with 1 if a
+test fails. Uses only the standard library."""
 import contextlib
 import io
 import os
@@ -26,7 +26,7 @@ LRA = "00000000-0000-8002-8000-000000000001"
 
 
 class Busy(Participant):
-    """Is between two runs when it is asked the first two times."""
+    """A participant that is between two runs when it is asked the first two times."""
 
     def answer(self, path: str, lra: str, fields: Message, body: bytes) -> Reply:
         return (503, b'{"refused":"E20 RunFull"}') if len(self.calls) < 2 else (200, b'{"a":1}')
@@ -37,51 +37,51 @@ class TestRepo(checks.Checked):
         """Libraries come before those that use them, each once."""
         repo.write(f"{self.folder}/crates.txt", "# a: b\nlow: uuid\nmiddle: low  # why\nhigh: low middle url\n")
         crates = repo.crates(self.folder)
-        self.same("crates in order", ["low", "middle", "high"], list(crates))
-        self.same("those below one", ["low", "middle"], repo.below("high", crates))
+        self.same("crates are in order", ["low", "middle", "high"], list(crates))
+        self.same("the crates below one", ["low", "middle"], repo.below("high", crates))
 
     def test_heads(self) -> None:
-        """Heads of functions, of which calls are none."""
+        """The heads of functions are found, and calls aren't taken for heads."""
         heads = ["fn one(", "    pub fn two<T>(", "pub(crate) const fn three("]
         matches = [repo.FUNCTION.match(head) for head in heads]
         self.same("heads", ["one", "two", "three"], [match and match[2] for match in matches])
-        self.check("no head", not repo.FUNCTION.match("    one(fn two"))
+        self.check("a call isn't a head", not repo.FUNCTION.match("    one(fn two"))
 
     def test_copy(self) -> None:
-        """A copy has the code of all crates and one that is added, and no proofs."""
+        """A copy has the code of all crates and of an added one, and no proofs."""
         repo.copy_crates(self.folder)
         crate = repo.add_crate(self.folder, "added", {"a/b.rt": "text"}, "state_ids")
-        self.same("the file that is added", "text", repo.read(f"{crate}/src/a/b.rt"))
-        self.same("what it uses", ["state_ids"], repo.crates(self.folder)["added"])
-        self.check("no proofs", not os.path.exists(f"{self.folder}/crates/state_ids/proofs"))
+        self.same("the added file", "text", repo.read(f"{crate}/src/a/b.rt"))
+        self.same("what the added crate uses", ["state_ids"], repo.crates(self.folder)["added"])
+        self.check("there are no proofs", not os.path.exists(f"{self.folder}/crates/state_ids/proofs"))
 
     def test_found(self) -> None:
-        self.same("what is there", "b", repo.found("a(.)", "xab")[1])
+        self.same("what was found", "b", repo.found("a(.)", "xab")[1])
         with self.assertRaises(SystemExit):
             repo.found("a", "b")
 
     def test_squeeze(self) -> None:
-        """Strings stay as they are."""
+        """Strings are left as they are."""
         page = '<style>a { b: c; }</style>\n<script>\n  // no\n  let a = "b  = c";\n</script>'
         self.same("a page", '<style>a{b:c;}</style>\n<script>\nlet a="b  = c";\n</script>', squeeze(page))
 
 
 class TestPorts(checks.Checked):
     def test_ports(self) -> None:
-        """Rows are free, and others each time; who listens holds its port."""
+        """Rows of ports are free and different each time, and a listener holds its port."""
         first, second = free_row(3), free_row(3)
-        self.check("a row", first == list(range(first[0], first[0] + 3)) and not set(first) & set(second))
+        self.check("two rows of ports", first == list(range(first[0], first[0] + 3)) and not set(first) & set(second))
         with socket.create_server((HOST, first[0])):
-            self.check("a port that is held", is_open(first[0]) and not is_free(first[0]))
-            self.check("it is held by this process", listens_at(os.getpid(), first[:1]))
-            self.check("and others aren't", not listens_at(os.getpid(), first[:2]))
-        self.check("a port that is free", not is_open(first[1]) and is_free(first[1]))
+            self.check("a port in use", is_open(first[0]) and not is_free(first[0]))
+            self.check("this process listens at it", listens_at(os.getpid(), first[:1]))
+            self.check("but not at the next port", not listens_at(os.getpid(), first[:2]))
+        self.check("a free port", not is_open(first[1]) and is_free(first[1]))
 
     def test_comes_to(self) -> None:
-        """It looks once at least, and not for much longer than it is to."""
+        """It looks at least once, and not for much longer than the given time."""
         began = time.monotonic()
-        self.check("what is so", comes_to(0, lambda: True))
-        self.check("what isn't", not comes_to(0.1, lambda: False) and time.monotonic() - began < 5)
+        self.check("a true condition", comes_to(0, lambda: True))
+        self.check("a false condition", not comes_to(0.1, lambda: False) and time.monotonic() - began < 5)
 
     def test_running(self) -> None:
         self.same("no program runs there", None, unproved.running_in(self.folder))
@@ -89,15 +89,15 @@ class TestPorts(checks.Checked):
 
 class TestNode(checks.Checked):
     def test_participant(self) -> None:
-        """It answers as it is told to, and remembers what came."""
+        """A participant answers as configured, and records the calls that came."""
         part = Participant(status=202)
         part.answers = {"/a": 404, "/b": (200, b"[1]")}
-        self.same("by its path", [(404, {}), (200, [1]), (202, {})],
+        self.same("answers go by the path", [(404, {}), (200, [1]), (202, {})],
                   [ask(part.port, "PUT", path) for path in ("/a", "/b", "/c")])
         exchange((HOST, part.port), f"PUT /e HTTP/1.1\r\nLong-Running-Action-Ended: urn:uuid:{LRA}\r\n\r\n".encode())
-        self.same("the paths", ["/a", "/b", "/c", "/e"], part.paths())
-        self.same("the ends", ["/e"], [call.path for call in part.ends()])
-        self.same("those of an LRA", [("PUT", "/e")], part.made(LRA))
+        self.same("the paths of all calls", ["/a", "/b", "/c", "/e"], part.paths())
+        self.same("the calls that report an end", ["/e"], [call.path for call in part.ends()])
+        self.same("the calls of an LRA", [("PUT", "/e")], part.made(LRA))
         self.check("when", part.time_of("/a", 404) is not None and part.time_of("/a", 200) is None)
         part.close()
         self.check("closed", not is_open(part.port))
@@ -106,12 +106,13 @@ class TestNode(checks.Checked):
         part.close()
 
     def test_annotated(self) -> None:
-        """A service answers by its script, in chunks, and gives links; a client's requests are those of Narayana's."""
+        """A service answers as scripted, in chunks, and gives links; a client's requests look like those of Narayana's
+        client."""
         service = Annotated("compensate", "forget", root="/a")
         service.say("compensate", 503, (200, b"Compensated"))
         client = Client(service.port)
         answers = [client.send("PUT", f"/a/compensate?method=x&n={n}", "") for n in range(3)]
-        self.same("by its script", [(503, ""), (200, "Compensated"), (200, "Compensated")],
+        self.same("answers go by the script", [(503, ""), (200, "Compensated"), (200, "Compensated")],
                   [(answer.status, answer.text) for answer in answers])
         self.same("in chunks", "chunked", answers[1].fields.get("Transfer-Encoding"))
         self.same("its calls", 3, len(service.of("compensate")))
@@ -126,20 +127,20 @@ class TestNode(checks.Checked):
         service.close()
 
     def test_ask(self) -> None:
-        """Who is between two runs is asked again."""
+        """A node that is between two runs is asked again."""
         busy = Busy()
         self.same("the answer", (200, {"a": 1}), ask(busy.port, "GET", "/"))
         self.same("questions", 3, len(busy.calls))
-        self.same("unless it isn't to be", (200, {"a": 1}), ask(busy.port, "GET", "/", again=()))
+        self.same("no repetition if none is wanted", (200, {"a": 1}), ask(busy.port, "GET", "/", again=()))
         busy.close()
 
     def test_texts(self) -> None:
         self.same("a home", 2, home_of(LRA))
         log = "[INFO  node_server::program] node 1: listens on 127.0.0.1:8070\nnode 1: a warning\n"
-        self.same("what is told besides", "node 1: a warning\n", without_starts(log))
+        self.same("standard error without those lines", "node 1: a warning\n", without_starts(log))
 
     def test_misled(self) -> None:
-        """Compensations come last to first; one that is called again at once counts once."""
+        """Compensations must come last to first; a call that is repeated at once counts once."""
         part, one = Participant(), Noted()
         one.members = {0: 1, 1: 2}
         for order, is_so in (((1, 1, 0), True), ((0, 1), False), ((1,), False)):
@@ -152,7 +153,7 @@ class TestNode(checks.Checked):
 
 
 def fields_of(lra: str) -> Message:
-    """The fields of a call for an LRA."""
+    """Returns the fields of a call for an LRA."""
     fields = Message()
     fields["Long-Running-Action"] = f"urn:uuid:{lra}"
     return fields
@@ -160,7 +161,7 @@ def fields_of(lra: str) -> Message:
 
 class TestPackages(checks.Checked):
     def test_archive(self) -> None:
-        """An archive is the same in whatever order its files come, and tells nothing of who made it."""
+        """An archive is the same in whatever order its files are given, and doesn't reveal who made it."""
         release = packages.Release("1.2.3", 1_000_000, {}, {})
         files = {"bin/b": packages.Member(b"b", 0o755), "a": packages.Member(b"a")}
         for name, given in (("one", files), ("two", dict(reversed(files.items())))):
@@ -173,7 +174,7 @@ class TestPackages(checks.Checked):
         self.same("its files", [(*each, release.time, "root") for each in names], seen)
 
     def test_version(self) -> None:
-        """Where a package of one version is named, and the constants, which stand in one line or in two."""
+        """Places where a package of a version is named are found, and constants that take one line or two."""
         text = "lra-coordinator_0.9.0_amd64.deb lra-coordinator:1.2.30 VERSION=2.0.0 lra-coordinator_VERSION 9.9.9"
         self.same("versions", ["0.9.0", "1.2.30", "2.0.0"], [found for _, found in cuts.NAMED.findall(text)])
         source = 'pub const VERSION: &str = "1.2.3-dev";\npub const KIT: &str =\n    "kit";\n'
@@ -182,7 +183,7 @@ class TestPackages(checks.Checked):
 
 class TestChecks(unittest.TestCase):
     def test_run(self) -> None:
-        """A check that fails fails the run, and ends nothing; so does a test that can't go on."""
+        """A failed check fails the run, but the test goes on; a test that can't go on fails the run too."""
 
         class Failing(checks.Checked):
             def test_check(self) -> None:
