@@ -98,7 +98,7 @@ class TestReader(unittest.TestCase):
         self.assertEqual(len(problems(text.replace('"E13"', '"E25"'))), 1)
         self.assertEqual(len(problems(text.replace("TYPE lra_ready gauge", "TYPE lra_ready counter"))), 1)
         without = text.replace('lra_held{node="1",status="Active"} 1\n', "")
-        self.assertEqual(problems(without), ["lra_held hasn't all seven statuses"])
+        self.assertEqual(problems(without), ["lra_held doesn't have all seven statuses"])
         self.assertEqual(len(problems(text[:-1])), 1)
 
 

@@ -1,4 +1,4 @@
-"""What tests do to a server: garbage, connections that are strange, and disks that are too small."""
+"""What tests do to a server: they send it garbage, open strange connections, and give it disks that are too small."""
 import contextlib
 import math
 import os
@@ -13,14 +13,15 @@ from tools.load import GONE
 from tools.node import Server
 from tools.ports import HOST
 
-# A pull with a byte of garbage: it is answered 400, and is one of a run's sixteen.
+# A pull with a byte of garbage. It is answered with 400, and counts as one of a run's sixteen.
 GARBAGE = b"POST /peer/pull HTTP/1.1\r\nHost: p\r\nContent-Length: 1\r\n\r\n\x09"
-# A link at which nobody listens, as long as one may well be.
+# A link at which nothing listens, as long as a realistic one may be.
 LONG_LINK = f"http://{HOST}:9/" + "c" * 100
 
 
 def connection(server: Server, text: bytes = b"", room: int | None = None) -> socket.socket:
-    """A connection to the first node on which this was sent, with so much room for what comes back."""
+    """Returns a connection to the first node over which `text` was sent, with a receive buffer of `room` bytes if that
+    is given."""
     line = socket.socket()
     if room:
         line.setsockopt(socket.SOL_SOCKET, socket.SO_RCVBUF, room)
@@ -30,8 +31,8 @@ def connection(server: Server, text: bytes = b"", room: int | None = None) -> so
 
 
 def fill(server: Server, lras: int, joins: int) -> list[str]:
-    """Begins LRAs at the first node, each with so many joins with long links, and gives those that were answered, until
-    one isn't."""
+    """Begins LRAs at the first node, each with this many joins with long links, until a call isn't answered, and
+    returns the LRAs whose begin was answered."""
     begun: list[str] = []
     with contextlib.suppress(KeyError, *GONE):
         while len(begun) < lras:
@@ -42,7 +43,8 @@ def fill(server: Server, lras: int, joins: int) -> list[str]:
 
 
 def slowest_page(server: Server, is_over: Callable[[], bool], pause: float) -> float:
-    """The longest that a page takes, asked for again and again with pauses between; infinity where one is refused."""
+    """Requests a page again and again, with pauses between, and returns the longest time that one took; infinity if one
+    was refused."""
     slowest = 0.0
     while not is_over():
         began = time.monotonic()
@@ -53,7 +55,7 @@ def slowest_page(server: Server, is_over: Callable[[], bool], pause: float) -> f
 
 
 def is_closed(line: socket.socket, until: float = 0) -> bool:
-    """Whether a connection is closed without a word; by a moment, if that is given."""
+    """Whether a connection is closed without an answer, by the moment `until` if that is given."""
     line.settimeout(max(0.01, until - time.monotonic()))
     try:
         return line.recv(1) == b""
@@ -64,7 +66,7 @@ def is_closed(line: socket.socket, until: float = 0) -> bool:
 
 
 def is_over(line: socket.socket) -> bool:
-    """Whether nothing more comes on a connection, once what has come is read."""
+    """Whether nothing more comes over a connection, after what has come is read."""
     line.setblocking(False)
     try:
         while line.recv(65536):
@@ -77,8 +79,8 @@ def is_over(line: socket.socket) -> bool:
 
 
 def small_disk(test: unittest.TestCase, size: str) -> str:
-    """A disk of so many bytes in a test's folder, which goes with the test. The test is skipped where this user may not
-    mount one."""
+    """Mounts a disk of this size in a test's folder until the test ends, and returns its path. Skips the test if this
+    user may not mount one."""
     folder = getattr(test, "folder")
     disk = f"{folder}/disk"
     os.mkdir(disk)

@@ -1,4 +1,4 @@
-"""Chromium without a window, which tests drive as an operator would use it."""
+"""Headless Chromium, which tests drive as an operator would use it."""
 import base64
 import contextlib
 import fcntl
@@ -13,13 +13,13 @@ import time
 from tools.node import Json
 
 CHROMIUM = ("chromium", "chromium-browser", "google-chrome", "chromium-headless-shell")
-# How Chromium is run without a window, and without what it does by itself.
+# The options that run Chromium headless, and without its background activity.
 QUIETLY = ["--headless=new", "--remote-debugging-pipe", "--no-sandbox", "--disable-gpu", "--hide-scrollbars",
            "--no-first-run", "--disable-background-networking", "--disable-component-update", "--disable-dev-shm-usage"]
 
 
 class Browser:
-    """Chromium without a window, driven over a pipe: messages of JSON, each with a zero byte behind it."""
+    """Headless Chromium, driven over a pipe: each message is JSON, with a zero byte behind it."""
 
     def __init__(self, program: str) -> None:
         self.folder = tempfile.TemporaryDirectory(ignore_cleanup_errors=True)
@@ -64,7 +64,7 @@ class Browser:
             self.note(heard)
 
     def note(self, heard: Json) -> None:
-        """Whatever the page throws, or the browser complains of. That a node refuses is none of it."""
+        """Records what the page throws and what the browser complains of, except that a node refuses a request."""
         if heard.get("method") == "Runtime.exceptionThrown":
             exception = heard["params"]["exceptionDetails"].get("exception", {})
             self.strange.append(exception.get("description", "an exception"))
@@ -86,7 +86,7 @@ class Browser:
                   features=[{"name": "prefers-color-scheme", "value": "dark" if dark else "light"}])
 
     def ends(self) -> None:
-        """Closes the page that is open."""
+        """Closes the open page."""
         self.call("Page.close")
         self.session = None
 
@@ -105,7 +105,7 @@ class Browser:
         return False
 
     def click(self, element: str) -> bool:
-        """Clicks on the middle of an element, if that can be seen without scrolling."""
+        """Clicks on the middle of an element, and returns whether that could be seen without scrolling."""
         spot = self.get(f"(() => {{ const it = {element}; if (!it) return null;"
                         " const r = it.getBoundingClientRect(), x = r.x + r.width / 2, y = r.y + r.height / 2;"
                         " return it.contains(document.elementFromPoint(x, y)) ? [x, y] : null; })()")
@@ -136,5 +136,5 @@ class Browser:
 
 
 def installed() -> str | None:
-    """The program, if it is installed."""
+    """Returns the program, if it is installed."""
     return next(filter(None, map(shutil.which, CHROMIUM)), None)

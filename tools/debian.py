@@ -1,4 +1,4 @@
-"""A fresh Debian 12 in a folder, with a network of its own: to install a package there, as root."""
+"""A fresh Debian 12 in a folder, with a network of its own, in which a package can be installed as root."""
 import contextlib
 import os
 import subprocess
@@ -6,7 +6,7 @@ import tempfile
 import types
 
 MIRROR = "http://deb.debian.org/debian"
-# Runs words in a root, with the system's folders that only they see.
+# Runs a command in a root, with system folders that are mounted only for it.
 ENTER = """
 root=$1
 shift
@@ -17,7 +17,7 @@ QUIET = {"DEBIAN_FRONTEND": "noninteractive", "LC_ALL": "C.UTF-8", "PATH": "/usr
 
 
 def kept_root(more: str = "") -> str:
-    """An archive of a fresh root, perhaps with more packages. It is made once, from Debian's network."""
+    """Returns an archive of a fresh root, perhaps with more packages. It is made once, over the network from Debian."""
     path = f"{tempfile.gettempdir()}/lra-debian-12{'-' if more else ''}{more.replace(',', '-')}.tar"
     if not os.path.exists(path):
         words = ["mmdebstrap", "--quiet", "--variant=minbase", *([f"--include={more}"] if more else [])]
@@ -27,7 +27,7 @@ def kept_root(more: str = "") -> str:
 
 
 class Debian:
-    """A root, and a network that nobody else is on. Both are gone at the end."""
+    """A root, and a network that nothing else uses. Both are removed at the end."""
 
     def __init__(self) -> None:
         self.files = contextlib.ExitStack()
@@ -46,29 +46,29 @@ class Debian:
         self.files.close()
 
     def beside(self, *words: str) -> list[str]:
-        """Words that run on this system, in the network of the root."""
+        """Returns a command line that runs on this system, in the network of the root."""
         return ["ip", "netns", "exec", self.network, *words]
 
     def inside(self, *words: str, user: str = "root") -> list[str]:
-        """Words that run in the root, in its network, as one of its users."""
+        """Returns a command line that runs in the root and its network, as one of its users."""
         who = [] if user == "root" else ["setpriv", f"--reuid={user}", f"--regid={user}", "--clear-groups"]
         entered = ["unshare", "--mount", "--pid", "--fork", "--kill-child", "sh", "-c", ENTER, "sh", self.folder]
         return self.beside(*entered, *who, *words)
 
     def run(self, *words: str, given: str = "") -> subprocess.CompletedProcess[str]:
-        """What comes of words in the root."""
+        """Runs a command in the root."""
         return subprocess.run(self.inside(*words), input=given, stdout=subprocess.PIPE, stderr=subprocess.STDOUT,
                               text=True, env=QUIET)
 
     def apt(self, *words: str) -> subprocess.CompletedProcess[str]:
-        """What comes of apt-get, which keeps the files that were changed."""
+        """Runs apt-get, which keeps configuration files that were changed."""
         keeps = [f"-oDpkg::Options::=--force-{what}" for what in ("confdef", "confold")]
         return self.run("apt-get", "-y", "-qq", *keeps, *words)
 
     def path(self, path: str) -> str:
-        """Where a path of the root is here."""
+        """Returns where a path of the root is on this system."""
         return f"{self.folder}/{path.lstrip('/')}"
 
     def stat(self, path: str) -> str:
-        """Who has a file, and who may do what with it."""
+        """Returns the owner, the group and the mode of a file."""
         return self.run("stat", "-c", "%U:%G %a", path).stdout.strip()

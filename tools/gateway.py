@@ -1,4 +1,4 @@
-"""A gateway that runs: its words, and its process."""
+"""A running gateway: its command line and its process."""
 import os
 import subprocess
 import typing
@@ -9,19 +9,20 @@ from tools.node import SLOW, Group, comes_to, end_input
 from tools.operated import Operated
 from tools.ports import HOST, free_row, is_open
 
-# The key of all gateways.
+# The key that all gateways use.
 KEY = "00112233445566778899aabbccddeeff" * 2
 KEY_NAME = "LRA_GATEWAY_KEY"
 
 
 def doors_of(group: Operated) -> list[str]:
-    """The nodes of a group, as a gateway that asks each is told of them."""
+    """Returns the nodes of a group as a gateway takes them that asks each node."""
     return [f"{HOST}:{port}/{door}" for port, door in zip(group.ports, group.doors, strict=True)]
 
 
 class Gateway:
-    """A gateway for groups of nodes, each a list of `doors_of`. It is reached at `port`, and by the nodes of the first
-    group at `calls`, by those of the next one port further. `options` stand between."""
+    """A gateway for groups of nodes, each a list as `doors_of` returns it. Clients reach it at `port`, the nodes of the
+    first group at `calls`, and the nodes of each further group one port higher. `options` are added to its command
+    line."""
 
     program = repo.program("lra_gateway")
 
@@ -40,7 +41,7 @@ class Gateway:
             self.kill()
 
     def words(self) -> list[str]:
-        """The words of its command line."""
+        """Returns its command line."""
         calls = [f"calls={HOST}:{self.calls}", f"via={self.via}:{self.calls}"] if self.via else [f"calls={self.calls}"]
         return [f"listen={HOST}:{self.port}", f"base={self.base}", *calls, *self.options,
                 *[f"group={','.join(nodes)}" for nodes in self.groups]]
@@ -58,20 +59,20 @@ class Gateway:
                                             stderr=log, env={**os.environ, KEY_NAME: KEY})
 
     def start(self) -> typing.Self:
-        """Starts it, and waits until it takes connections."""
+        """Starts it, and waits until it accepts connections."""
         self.run()
         ports = [self.port, *(self.calls + place for place in range(len(self.groups)))]
         comes_to(SLOW, lambda: not self.is_running() or all(map(is_open, ports)))
         if not self.is_running() or not all(map(is_open, ports)):
-            raise SystemExit(f"the gateway doesn't come up: {self.log()}")
+            raise SystemExit(f"the gateway doesn't start: {self.log()}")
         return self
 
     def log(self) -> str:
-        """What it told on standard error."""
+        """Returns what it logged on standard error."""
         return repo.read(self.path_of_log())
 
     def kill(self) -> None:
-        """Ends it by SIGKILL."""
+        """Kills it with SIGKILL."""
         if self.process:
             self.process.kill()
             self.process.communicate()
@@ -82,7 +83,7 @@ class Gateway:
         self.start()
 
     def end(self) -> int | None:
-        """Ends its input, and gives its status."""
+        """Closes its standard input, and returns its exit status."""
         if not self.process:
             return None
         end_input(self.process)

@@ -1,5 +1,4 @@
-"""Homes that are full, and pulls of the largest frame that they give. With it, what the kernel says of a process's
-memory."""
+"""Full homes, pulls of the largest frame that they produce, and what the kernel says of a process's memory."""
 import subprocess
 import threading
 import time
@@ -7,15 +6,15 @@ import time
 from tools.node import Nodes
 
 NODES, LRAS, PARTICIPANTS = 8, 256, 32
-# A link as long as links may be.
+# A link of the greatest length.
 LINK = "http://p/" + "a" * 118
-# A pull of all.
+# A pull of everything.
 BODY = bytes([NODES]) + bytes(8 * NODES)
 PULL = f"POST /peer/pull HTTP/1.1\r\nHost: peer\r\nContent-Length: {len(BODY)}\r\n\r\n".encode() + BODY
 
 
 def fill_home(nodes: Nodes, node: int, participants: int, links: dict[str, str]) -> None:
-    """Begins as many LRAs at a home as it holds, each with so many participants."""
+    """Begins as many LRAs at a home as it holds, each with this many participants."""
     for _ in range(LRAS):
         lra = nodes.begin(node)
         for _ in range(participants):
@@ -23,7 +22,7 @@ def fill_home(nodes: Nodes, node: int, participants: int, links: dict[str, str])
 
 
 def fill_homes(nodes: Nodes, participants: int, links: dict[str, str]) -> None:
-    """Fills the homes of all nodes, and waits until they have told one another."""
+    """Fills the homes of all nodes, and waits until every node shows all LRAs."""
     homes = range(1, len(nodes.ports) + 1)
     threads = [threading.Thread(target=fill_home, args=(nodes, node, participants, links)) for node in homes]
     for thread in threads:
@@ -35,8 +34,8 @@ def fill_homes(nodes: Nodes, participants: int, links: dict[str, str]) -> None:
 
 
 def fill_wholly(nodes: Nodes) -> None:
-    """Fills homes with as many participants as may be, whose links are as long as may be, and waits until the runs are
-    over that keep it."""
+    """Fills homes with as many participants as are allowed, whose links are as long as is allowed, and waits until the
+    runs end that store all this."""
     began = time.time()
     fill_homes(nodes, PARTICIPANTS, dict.fromkeys(("compensate", "complete", "status", "forget"), LINK))
     print(f"{NODES} homes filled in {time.time() - began:.0f} s", flush=True)
@@ -44,6 +43,6 @@ def fill_wholly(nodes: Nodes) -> None:
 
 
 def forget_most(process: subprocess.Popen) -> None:
-    """Has the kernel forget the most memory that a process had."""
+    """Makes the kernel reset the peak memory of a process."""
     with open(f"/proc/{process.pid}/clear_refs", "w", encoding="utf-8") as file:
         file.write("5")

@@ -1,4 +1,5 @@
-"""A load of LRAs on nodes that may be killed: what was answered of each, and what of that isn't kept."""
+"""A load of LRAs on nodes that may be killed. It records what was answered for each LRA, and finds what was then
+lost."""
 import contextlib
 import http.client
 import random
@@ -11,13 +12,13 @@ from tools.participant import Participant
 
 SHOWS = {"close": ("Closing", "Closed"), "cancel": ("Cancelling", "Cancelled"), None: ()}
 ENDED = {"Closed", "Cancelled"}
-# What comes of a request to a node that is killed.
+# The errors of a request to a node that is killed.
 GONE = (OSError, http.client.HTTPException)
 
 
 class Noted:
-    """What was answered of an LRA: its participants, in order of their joins, and which of them reports by itself; what
-    was decided, and whether that was answered; whether an outcome was told of the one that reports."""
+    """What was answered for an LRA: its participants, in the order of their joins, and which of them reports by itself;
+    the decision, and whether it was answered; whether an outcome was reported for the participant that reports."""
 
     def __init__(self) -> None:
         self.members: dict[int, int] = {}
@@ -36,12 +37,12 @@ Notes = dict[str, Noted]
 
 
 def links_of(part: Participant, place: int) -> dict[str, str]:
-    """The links of the LRA's participant of a place in the order of joins."""
+    """Returns the links of the participant at this place in the order of joins."""
     return {"compensate": f"{part.url}/cancel/{place}", "complete": f"{part.url}/close/{place}"}
 
 
 def lost(nodes: Nodes, noted: Notes) -> Iterator[tuple]:
-    """What was answered and isn't there."""
+    """Yields what was answered and isn't there."""
     shown = nodes.shown_at_home()
     for lra, one in noted.items():
         if shown.get(lra) not in one.may_show():
@@ -52,8 +53,8 @@ def lost(nodes: Nodes, noted: Notes) -> Iterator[tuple]:
 
 
 def misled(part: Participant, noted: Notes, ended: dict[str, str]) -> Iterator[tuple]:
-    """LRAs whose participants weren't called as they had to be: all to complete, or last to first to compensate. One
-    that is called again at once counts once."""
+    """Yields LRAs whose participants weren't called as required: all to complete, or last to first to compensate. A
+    call that is repeated at once counts once."""
     for lra, one in noted.items():
         word = "cancel" if ended.get(lra) == "Cancelled" else "close"
         every = [path for _, path in part.made(lra) if path.startswith(f"/{word}/")]
@@ -63,7 +64,7 @@ def misled(part: Participant, noted: Notes, ended: dict[str, str]) -> Iterator[t
 
 
 def tell(group: Group, node: int, lra: str, one: Noted) -> None:
-    """Tells an outcome at some node, which may have heard of the end, and then has its LRA ended."""
+    """Reports an outcome at a node that has received the LRA's end, which then ends the LRA. Tries for a while."""
     body = {"act": "complete" if one.word == "close" else "compensate", "outcome": "done"}
     for _ in range(40):
         if group.ask(node, "PUT", f"/lra/{lra}/member/{one.reports}/report", body)[0] == 204:
@@ -73,8 +74,8 @@ def tell(group: Group, node: int, lra: str, one: Noted) -> None:
 
 
 class Load:
-    """Six clients, two at each of three nodes, who begin LRAs, join and decide them, until they are to stop or their
-    node is gone. What is answered they note."""
+    """Six clients, two at each of three nodes, that begin LRAs, join and decide them, until they are stopped or their
+    node is gone. They record what is answered."""
 
     def __init__(self, group: Group, dice: random.Random, part: Callable[[int], Participant]) -> None:
         self.group, self.stops = group, threading.Event()
@@ -100,7 +101,7 @@ class Load:
                 self.play_one(node, part, dice)
 
     def play_one(self, node: int, part: Participant, dice: random.Random) -> None:
-        """One LRA. One in three has a participant whose outcome is told at some node."""
+        """Plays one LRA. Some have a participant whose outcome is reported at some node."""
         lra = self.group.begin(node)
         one = self.noted[lra] = Noted()
         for place in range(dice.randrange(4)):
@@ -113,9 +114,9 @@ class Load:
         if one.word:
             one.is_decided = self.group.finish(node, lra, one.word) == 200
         if one.is_decided and one.reports:
-            with contextlib.suppress(*GONE):  # that node is killed: perhaps nothing was told
+            with contextlib.suppress(*GONE):  # that node is killed: perhaps nothing was reported
                 tell(self.group, dice.choice((1, 2, 3)), lra, one)
 
     def told(self) -> set[str]:
-        """The LRAs of which an outcome was told."""
+        """Returns the LRAs for which an outcome was reported."""
         return {lra for lra, one in self.noted.items() if one.is_told}

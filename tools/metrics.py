@@ -1,6 +1,6 @@
-"""Reads what a node answers to GET /metrics, strictly, and knows what it has to be.
+"""Reads a node's answer to GET /metrics strictly, and knows what it must contain.
 
-The format is Prometheus's text format 0.0.4, of which the reader takes counters, gauges and untyped metrics, in the one
+The format is Prometheus's text format 0.0.4. The reader takes counters, gauges and untyped metrics, only in the
 spelling that a node writes: one space between words, no comma behind the last label, no timestamp."""
 import dataclasses
 import math
@@ -18,7 +18,7 @@ Samples = list[tuple[Labels, float]]
 
 @dataclasses.dataclass
 class Family:
-    """A metric: what it is, how it is explained, and its values."""
+    """A metric: its type, its description, and its values."""
 
     kind: str | None = None
     help: str | None = None
@@ -26,14 +26,14 @@ class Family:
 
 
 class Wrong(ValueError):
-    """A line that isn't as the format has it."""
+    """A line that breaks the format."""
 
     def __init__(self, number: int, what: str):
         super().__init__(f"line {number}: {what}")
 
 
 def families(text: str) -> dict[str, Family]:
-    """All metrics of a text, in its order, or Wrong."""
+    """Returns all metrics of a text, in its order. Raises Wrong."""
     if text and not text.endswith("\n"):
         raise Wrong(text.count("\n") + 1, "the text doesn't end with a newline")
     found: dict[str, Family] = {}
@@ -53,10 +53,10 @@ def families(text: str) -> dict[str, Family]:
 
 
 def read_note(number: int, line: str, found: dict[str, Family]) -> str:
-    """A line of HELP or TYPE, and the metric that it names."""
+    """Reads a HELP or TYPE line, and returns the metric that it names."""
     words = re.fullmatch(r"# (HELP|TYPE) (\S+) (.+)", line)
     if not words or not NAME.fullmatch(words[2]):
-        raise Wrong(number, f"no line of HELP or TYPE: {line}")
+        raise Wrong(number, f"not a HELP or TYPE line: {line}")
     what, name, text = words.groups()
     family = found.setdefault(name, Family())
     if family.samples:
@@ -65,7 +65,7 @@ def read_note(number: int, line: str, found: dict[str, Family]) -> str:
         raise Wrong(number, f"a second {what} of {name}")
     if what == "TYPE":
         if text not in KINDS:
-            raise Wrong(number, f"{name} is {text}, and none of {', '.join(KINDS)}")
+            raise Wrong(number, f"{name} is {text}, and not one of {', '.join(KINDS)}")
         family.kind = text
     else:
         if re.sub(r"\\[\\n]", "", text).count("\\"):
@@ -75,7 +75,7 @@ def read_note(number: int, line: str, found: dict[str, Family]) -> str:
 
 
 def read_sample(number: int, line: str, found: dict[str, Family]) -> str:
-    """A line with a value, and the metric that it is of."""
+    """Reads a line with a value, and returns its metric."""
     name = NAME.match(line)
     if not name:
         raise Wrong(number, f"no name: {line}")
@@ -97,7 +97,7 @@ def read_sample(number: int, line: str, found: dict[str, Family]) -> str:
 
 
 def read_labels(number: int, line: str, at: int) -> tuple[int, Labels]:
-    """The labels that begin there, up to behind the brace."""
+    """Reads the labels that begin at a column. Returns the column behind the brace, and the labels."""
     labels: Labels = {}
     while True:
         label = LABEL.match(line, at)
@@ -114,7 +114,7 @@ def read_labels(number: int, line: str, at: int) -> tuple[int, Labels]:
 
 
 def samples(text: str) -> dict[str, Samples]:
-    """The values of each metric with their labels. Raises Wrong."""
+    """Returns the values of each metric with their labels. Raises Wrong."""
     return {name: family.samples for name, family in families(text).items()}
 
 
@@ -122,7 +122,7 @@ CALL = "begin|join|leave|close|cancel|report|forgot|told|purge|status|member|pag
 KIND = "complete|compensate|status|forget|after"
 STATUS = "Active|Closing|Closed|FailedToClose|Cancelling|Cancelled|FailedToCancel"
 VERSION = r"\d+\.\d+\.\d+(-dev)?"
-# Each metric: what it is, and its labels beside `node`, each with the values that it may have.
+# Each metric with its type, and its labels besides `node`, each with the values that it may have.
 METRICS: dict[str, tuple[str, dict[str, str]]] = {
     "lra_up": ("gauge", {}),
     "lra_build_info": ("gauge", {"version": VERSION, "commit": "unknown|[0-9a-f]{40}", "kit": "[a-z0-9-]+"}),
@@ -154,7 +154,7 @@ METRICS: dict[str, tuple[str, dict[str, str]]] = {
 
 
 def problems(text: str) -> list[str]:
-    """What of a node's text isn't as the list above has it, a line each."""
+    """Returns a line for each place where a node's text doesn't match the list above."""
     try:
         found = families(text)
     except Wrong as error:
@@ -166,7 +166,7 @@ def problems(text: str) -> list[str]:
             continue
         kind, wanted = METRICS[name]
         if family.kind != kind:
-            wrong.append(f"{name} is a {family.kind}, and has to be a {kind}")
+            wrong.append(f"{name} is a {family.kind}, and not a {kind}")
         for labels, value in family.samples:
             patterns = {"node": "[1-8]", **wanted}
             fits = labels.keys() == patterns.keys() and all(re.fullmatch(patterns[key], labels[key]) for key in labels)
@@ -176,12 +176,13 @@ def problems(text: str) -> list[str]:
     wrong += [f"{name} is missing" for name in always if name not in found]
     held = {labels.get("status") for labels, _ in found["lra_held"].samples} if "lra_held" in found else None
     if held not in (None, set(STATUS.split("|"))):
-        wrong.append("lra_held hasn't all seven statuses")
+        wrong.append("lra_held doesn't have all seven statuses")
     return wrong
 
 
 def example(known: dict[str, Samples] | None = None) -> str:
-    """A text as a node may answer it, with a sample or more of each metric: the known ones of those that are known."""
+    """Returns a text as a node may answer it, with at least one sample of each metric. `known` gives samples of some
+    metrics."""
     lines, first = [], {"refusal": "E13", "from": "2", "of": "2", "by": "2", "version": "1.2.3", "kit": "kit"}
     for name, (kind, labels) in METRICS.items():
         row = {"node": "1", **{key: first.get(key, pattern.split("|")[0]) for key, pattern in labels.items()}}

@@ -1,4 +1,4 @@
-"""A mock of the operator's port: what a node might hold, and what it answers of that."""
+"""A mock of the operators' port: what a node might hold, and how it answers for that."""
 import contextlib
 import http.server
 import json
@@ -16,11 +16,11 @@ from tools.ports import HOST
 
 HOSTS = ["hotel:8080", "flight:8080", "payment:9000", "order:8080", "car.rental.example:8081"]
 ENDED = {"Closed", "FailedToClose", "Cancelled", "FailedToCancel"}
-# How often a status is that of a made-up LRA which need be of none.
+# How often made-up LRAs get each status, if it is free to choose.
 OFTEN = {"Active": 20, "Closed": 60, "Cancelled": 20, "Closing": 2, "Cancelling": 2}
-# A home's most LRAs.
+# The most LRAs that a home holds.
 MOST = 256
-# What a participant shows beside what its LRA shows: the first one, and the others.
+# The statuses of participants that go with the status of their LRA: that of the first participant, and of the others.
 SHOWS = {
     "Active": ("Active", "Active"),
     "Closing": ("Completing", "Completed"),
@@ -39,7 +39,7 @@ def id_of(home: int, number: int) -> str:
 
 
 class World:
-    """What a node holds, made up: so many LRAs of so many homes, the first of which is this node's."""
+    """A node's made-up state: a number of LRAs of several homes, the first of which is this node's."""
 
     def __init__(self, count: int) -> None:
         self.dice, self.count, self.born = random.Random(count), count, time.time()
@@ -51,7 +51,7 @@ class World:
         self.is_stopped = False
         self.asked: list[tuple[float, str, str, bytes]] = []
         self.numbers = dict.fromkeys(range(1, self.nodes + 1), 0)
-        # How many seconds ago each other node was heard, and how many LRAs this node's home takes.
+        # How many seconds ago each peer was last pulled from, and how many LRAs this node's home takes.
         self.pulled = dict.fromkeys(range(2, self.nodes + 1), 1)
         self.most = MOST
         wanted = self.first_statuses()
@@ -62,14 +62,14 @@ class World:
         self.call()
 
     def first_statuses(self) -> list[str]:
-        """Statuses of which there have to be some."""
+        """Returns statuses of which there must be some."""
         if self.count == 1:
             return ["Cancelling"]
         failed = ["FailedToClose", "FailedToCancel"] * (1 + self.count // 500)
         return ["Cancelling", "Closing", "Cancelling", "Closed", *["Closing"] * (self.count // 64), *failed]
 
     def grow(self, home: int, parent: str | None, status: str) -> str:
-        """Makes an LRA up, with its members and those that are nested in it."""
+        """Makes up an LRA, with its members and the LRAs nested in it."""
         self.numbers[home] += 1
         lra = id_of(home, self.numbers[home])
         members: list[Json] = []
@@ -93,7 +93,7 @@ class World:
         return lra
 
     def depth(self, lra: str) -> int:
-        """Which of its tree's levels an LRA is on: a root on the first."""
+        """Returns an LRA's level in its tree: 1 for a root."""
         parent = self.lras[lra]["parent"]
         return 1 if parent is None else 1 + self.depth(parent)
 
@@ -111,7 +111,8 @@ class World:
                 "forgotten": False, "told": status in ENDED and links["after"] is not None}
 
     def call(self) -> None:
-        """Home 1 calls some in vain: its ending ones, and a listener of one that has ended."""
+        """Makes up home 1's unanswered calls: to participants of its ending LRAs, and to a listener of one that has
+        ended."""
         since = 4000.0
         for lra, one in self.lras.items():
             if home_of(lra) != 1 or len(self.vain) > 40:
@@ -130,7 +131,7 @@ class World:
                     break
 
     def may_listen(self, one: Json) -> bool:
-        """Whether a listener of an LRA may be the one that is called in vain."""
+        """Whether a listener of an LRA may be the one whose call is unanswered."""
         is_ended_root = one["status"] == "Closed" and not one["parent"]
         return is_ended_root and len(self.lras) > 1 and not any(call["kind"] == "after" for call in self.vain)
 
@@ -143,7 +144,7 @@ class World:
         return sorted(listed, key=lambda call: -call["since"])[:256]
 
     def counts(self) -> str:
-        """What /metrics tells: of this node's home, and of nodes that it hears."""
+        """Returns the answer to /metrics: the counts of this node's home, and of the nodes that it pulls from."""
         shown = [one["status"] for lra, one in self.lras.items() if home_of(lra) == 1]
         return metrics.example({
             "lra_pulled_seconds": [({"from": str(node)}, seconds) for node, seconds in self.pulled.items()],
@@ -152,7 +153,7 @@ class World:
         })
 
     def purge(self, one: Json) -> str:
-        """What a purge would be answered."""
+        """Returns the answer to a purge."""
         name = f"{home_of(one['lra'])}.{int(one['lra'][24:], 16)}"
         if home_of(one["lra"]) != 1:
             return f"E4 NotHome {home_of(one['lra'])}"
@@ -207,7 +208,7 @@ class World:
         return 204, None
 
     def cancelled(self, lra: str) -> tuple[int, Json | None]:
-        """The answer to a cancel, which may be done."""
+        """Returns the answer to a cancel, and does it if it is allowed."""
         one = self.lras[lra]
         if home_of(lra) != 1:
             return 421, {"refused": f"E4 NotHome {home_of(lra)}"}
@@ -219,7 +220,7 @@ class World:
         return 200, {"lra": lra, "status": "Cancelling"}
 
     def purged(self, one: Json) -> tuple[int, Json | None]:
-        """The answer to a purge, which may be done."""
+        """Returns the answer to a purge, and does it if it is allowed."""
         answer = self.purge(one)
         if answer != "due":
             return 421 if answer.startswith("E4") else 409, {"refused": answer}

@@ -1,6 +1,5 @@
 """What services with LRA annotations send and answer, byte by byte: what Narayana's client (`NarayanaLRAClient`) sends
-over Apache's HTTP client, what its filter (`ServerLRAFilter`) does around a method, and the methods that are called
-back."""
+over Apache's HTTP client, what its filter (`ServerLRAFilter`) does around a method, and the callback methods."""
 import contextlib
 import http.client
 import socket
@@ -14,7 +13,7 @@ from tools.node import SLOW, Answer, comes_to
 from tools.participant import Call, Participant, Reply
 from tools.ports import HOST
 
-# The annotation of each method that is called back, and whose links a service gives.
+# The HTTP method in the annotation of each callback method. A service gives links to these methods.
 ANNOTATIONS = {"compensate": "PUT", "complete": "PUT", "status": "GET", "forget": "DELETE", "after": "PUT",
                "leave": "PUT"}
 BEGINNER = "com.example.Trip#book"
@@ -22,7 +21,7 @@ AGENT = "Apache-HttpClient/4.5.14 (Java/17.0.9)"
 
 
 class Declined(Exception):
-    """A code that the client takes for an error."""
+    """A status that the client takes for an error."""
 
     def __init__(self, answer: Answer) -> None:
         super().__init__(f"{answer.status} {answer.text}")
@@ -34,12 +33,12 @@ def quoted(text: str) -> str:
 
 
 def uid_of(lra: str) -> str:
-    """By what a client asks for an LRA: what stands behind the last slash of its id's path."""
+    """Returns how a client names an LRA in requests: by what stands behind the last slash of its id's path."""
     return urllib.parse.urlsplit(lra).path.rpartition("/")[2]
 
 
 def head_of(method: str, target: str, host: str, fields: tuple[str, ...] = (), length: int | None = None) -> bytes:
-    """The head of a request as the client writes it."""
+    """Returns the head of a request as the client writes it."""
     stated = () if length is None else (f"Content-Length: {length}",)
     lines = [f"{method} {target} HTTP/1.1", "Narayana-LRA-API-version: 1.0", *fields, *stated, f"Host: {host}",
              "Connection: Keep-Alive", f"User-Agent: {AGENT}", "Accept-Encoding: gzip,deflate"]
@@ -47,14 +46,14 @@ def head_of(method: str, target: str, host: str, fields: tuple[str, ...] = (), l
 
 
 def answer_over(line: socket.socket, method: str = "GET") -> Answer:
-    """The answer that comes over a connection, up to its stated end."""
+    """Reads the answer that comes over a connection, up to its stated end."""
     with contextlib.closing(http.client.HTTPResponse(line, method=method)) as response:
         response.begin()
         return Answer(response.status, dict(response.getheaders()), response.read().decode())
 
 
 class Client:
-    """Calls the coordinator at a port, and may come to another by `moved`."""
+    """Calls the coordinator at a port. `port` may be set to move to another one."""
 
     def __init__(self, port: int, seconds: float = SLOW) -> None:
         self.port, self.seconds = port, seconds
@@ -66,7 +65,7 @@ class Client:
         return socket.create_connection((HOST, self.port), self.seconds)
 
     def send(self, method: str, target: str, body: str | None = None, *fields: str) -> Answer:
-        """One request, to a target below the coordinator's path, or a whole path."""
+        """Makes one request, to a target below the coordinator's path or to a whole path."""
         path = target if target.startswith("/") else f"/lra-coordinator/{target}"
         content = (body or "").encode()
         typed = ("Content-Type: text/plain",) if method == "PUT" else ()
@@ -76,7 +75,7 @@ class Client:
             return answer_over(line, method)
 
     def start(self, parent: str = "", limit: int = 0) -> str:
-        """The id of an LRA that is begun."""
+        """Begins an LRA, and returns its id."""
         query = f"ClientID={quoted(BEGINNER)}&TimeLimit={limit}&ParentLRA={quoted(parent)}"
         answer = self.send("POST", f"start?{query}", "")
         if answer.status != 201:
@@ -84,7 +83,7 @@ class Client:
         return answer.fields["Long-Running-Action"]
 
     def join(self, lra: str, link: str, limit: int = 0) -> str:
-        """The recovery URL of a participant that joins."""
+        """Joins a participant, and returns its recovery URL."""
         answer = self.send("PUT", f"{uid_of(lra)}?TimeLimit={limit}", link, f"Link: {link}")
         if answer.status != 200:
             raise Declined(answer)
@@ -96,7 +95,7 @@ class Client:
             raise Declined(answer)
 
     def end(self, lra: str, word: str = "close") -> str:
-        """What an LRA shows that is closed or cancelled."""
+        """Closes or cancels an LRA, and returns the status that it then shows."""
         answer = self.send("PUT", f"{uid_of(lra)}/{word}", "")
         if answer.status not in (200, 202):
             raise Declined(answer)
@@ -109,7 +108,7 @@ class Client:
         return answer.text or "Active"
 
     def comes_to(self, lra: str, status: str, seconds: float = 30) -> bool:
-        """Whether an LRA comes to show this within a time."""
+        """Waits until an LRA shows this status, and returns whether it did in time."""
 
         def is_so() -> bool:
             with contextlib.suppress(Declined, OSError, http.client.HTTPException):
@@ -120,7 +119,7 @@ class Client:
 
 
 def code_of(call: Callable[..., object], *words: typing.Any) -> int:
-    """The code with which a call is declined, or 0."""
+    """Returns the status with which a call is declined, or 0."""
     try:
         call(*words)
     except Declined as declined:
@@ -129,7 +128,7 @@ def code_of(call: Callable[..., object], *words: typing.Any) -> int:
 
 
 def insist(call: Callable[..., typing.Any], *words: typing.Any, tries: int = 100) -> typing.Any:
-    """What a call gives, which is made again where it is declined with 503 or meets nobody."""
+    """Returns the result of a call, which is repeated if it is declined with 503 or nothing answers."""
     for turn in range(tries):
         try:
             return call(*words)
@@ -140,8 +139,8 @@ def insist(call: Callable[..., typing.Any], *words: typing.Any, tries: int = 100
 
 
 class Annotated(Participant):
-    """A service whose methods have annotations, and are called by its links. Without a script it answers 200 and the
-    id, in chunks."""
+    """A service with annotated methods, which are called by its links. Without a script it answers 200 and the id, in
+    chunks."""
 
     def __init__(self, *words: str, root: str = "/trip", **how: typing.Any) -> None:
         self.words = words or ("compensate", "complete")
@@ -153,12 +152,12 @@ class Annotated(Participant):
         return self.url + self.root
 
     def link(self, package: str = "jakarta") -> str:
-        """The links with which it joins, as the client writes them."""
+        """Returns the links with which it joins, as the client writes them."""
         return ",".join(f'<{self.base()}/{word}?method={package}.ws.rs.{ANNOTATIONS[word]}>; rel="{word}"; '
                         f'title="{word} URI"; type="text/plain"' for word in self.words)
 
     def say(self, word: str, *replies: Reply) -> None:
-        """Answers the next calls of a method so, and all further ones as the last of them."""
+        """Scripts the answers to the next calls of a method. All further calls get the last of them."""
         self.scripts[word] = list(replies)
 
     def answer(self, path: str, lra: str, fields: Message, body: bytes) -> Reply:
@@ -168,33 +167,33 @@ class Annotated(Participant):
         return row.pop(0) if len(row) > 1 else row[0]
 
     def of(self, word: str) -> list[Call]:
-        """The calls of a method, in order."""
+        """Returns the calls of a method, in order."""
         return [call for call in self.calls if method_in(call.path) == word]
 
     def is_called(self, word: str, times: int = 1, seconds: float = 30) -> bool:
-        """Whether a method comes to be called so often."""
+        """Waits until a method has been called this often, and returns whether it was in time."""
         return comes_to(seconds, lambda: len(self.of(word)) >= times)
 
 
 def method_in(path: str) -> str:
-    """The last part of a path, by which a service knows the method."""
+    """Returns the last part of a path, by which a service knows the method."""
     return path.partition("?")[0].rpartition("/")[2]
 
 
 class Context(typing.NamedTuple):
-    """What a method of a service finds in its request."""
+    """What a service's method finds in its request."""
 
     lra: str
     recovery: str
 
 
-# A method: its code.
+# A method, which returns a status.
 Body = Callable[[Context], int]
 
 
 @contextlib.contextmanager
 def passing_over(*codes: int) -> Iterator[None]:
-    """Passes over what is declined with one of these."""
+    """Ignores it if a call is declined with one of these."""
     try:
         yield
     except Declined as declined:
@@ -203,15 +202,15 @@ def passing_over(*codes: int) -> Iterator[None]:
 
 
 def started_for(client: Client, kind: str, incoming: str, limit: int) -> str:
-    """The LRA that the filter starts for a method, or none."""
+    """Returns the LRA that the filter starts for a method, or an empty string if it starts none."""
     is_new = kind in ("REQUIRES_NEW", "NESTED") or kind == "REQUIRED" and not incoming
     return client.start(incoming if kind == "NESTED" else "", limit) if is_new else ""
 
 
 def invoke(client: Client, kind: str, service: Annotated, body: Body, incoming: str = "", ends: bool = True,
            limit: int = 0) -> int:
-    """Calls a method of a service through the filter: by the type of its LRA, within the LRA of a request. Its code, or
-    412 of the filter."""
+    """Calls a method of a service through the filter, with the type of its LRA, within the LRA of a request. Returns
+    its status, or 412 if the filter refuses."""
     if kind == "MANDATORY" and not incoming or kind == "NEVER" and incoming:
         return 412
     started = started_for(client, kind, incoming, limit)

@@ -1,4 +1,4 @@
-"""Packages that have the same bytes wherever they are made of the same files: an archive, and a package for Debian."""
+"""Packages that have the same bytes wherever they are made from the same files: an archive and a Debian package."""
 import gzip
 import hashlib
 import io
@@ -15,27 +15,27 @@ from tools.repo import TOP
 
 NAME = "lra-coordinator"
 PROGRAMS = ("lra_node", "lra_gateway")
-# Names that programs had before, each with the program that it leads to.
+# Former names of programs, each with the program that it leads to.
 OLD_NAMES = {"lra_member": "lra_node"}
-# What a package holds beside the programs, by patterns of paths from the top.
+# What a package holds besides the programs, as patterns of paths from the top.
 PAGES = ("README.md", "CHANGELOG.md", "CONTRIBUTING.md", "LICENSE", "docs/*.md", "docs/*.json", "benches/README.md",
          "benches/figures.svg", "demo/README.md", "demo/alerts.yaml", "demo/grafana.json", "demo/[Pp]articipant.*",
          "demo/mail.py", "demo/watch.png")
 DEPLOYED = ("deploy/Containerfile", "deploy/compose.yaml", "deploy/kubernetes.yaml", "deploy/lra.conf.template",
             "deploy/systemd/*")
 UNITS = ("lra-node.service", "lra-member@.service", "lra-gateway.service")
-# What each program is for, in its page of the manual, and the page that tells more.
+# What each program is for, as its manual page says, and the page that tells more.
 MANUAL = {
     "lra_node": ("nodes of an LRA coordinator", "OPERATING"),
     "lra_gateway": ("a gateway to LRA coordinators for services with LRA annotations", "GATEWAY"),
 }
 DOCS = f"usr/share/doc/{NAME}"
-# The libraries that a program may need, with Debian's names.
+# The libraries that a program may need, with the names of Debian's packages.
 LIBRARIES = {"libc.so.6": "libc6", "libm.so.6": "libc6", "libgcc_s.so.1": "libgcc-s1"}
 
 
 class Member(typing.NamedTuple):
-    """A file of a package: what it holds, and who may do what with it; or a link to another file beside it."""
+    """A file of a package: its content and its mode; or a link to another file beside it."""
 
     data: bytes
     mode: int = 0o644
@@ -47,8 +47,8 @@ Files = dict[str, Member]
 
 
 class Release(typing.NamedTuple):
-    """What is packed: the version, its time in seconds, the programs, and texts by their paths; and how hard it is
-    squeezed, from 0 to 9."""
+    """What is packed: the version, its time in seconds, the programs, and texts by their paths; and the compression
+    level, from 0 to 9."""
 
     version: str
     time: int
@@ -58,13 +58,13 @@ class Release(typing.NamedTuple):
 
 
 def bytes_at(path: str) -> bytes:
-    """The bytes of a file. A path that isn't absolute is from the top."""
+    """Reads a file's bytes. A path that isn't absolute is relative to the top."""
     with open(os.path.join(TOP, path), "rb") as file:
         return file.read()
 
 
 def found_by(pattern: str) -> list[str]:
-    """The files that a pattern names, of which there has to be one."""
+    """Returns the files that match a pattern. There must be at least one."""
     found = repo.files(pattern)
     if not found:
         raise SystemExit(f"release: there is no {pattern}")
@@ -72,7 +72,7 @@ def found_by(pattern: str) -> list[str]:
 
 
 def put(path: str, member: Member) -> None:
-    """Writes a file of a package, with its folders."""
+    """Writes a file of a package, and makes its folders."""
     os.makedirs(os.path.dirname(path), exist_ok=True)
     if member.link:
         return os.symlink(member.link, path)
@@ -82,7 +82,7 @@ def put(path: str, member: Member) -> None:
 
 
 def stripped(path: str) -> bytes:
-    """A program without the names of its parts, which nobody needs to run it."""
+    """Returns a program without its symbol names, which nobody needs to run it."""
     with tempfile.TemporaryDirectory() as folder:
         made = f"{folder}/program"
         subprocess.run(["strip", "--strip-all", "--remove-section=.comment", "-o", made, path], check=True)
@@ -90,7 +90,7 @@ def stripped(path: str) -> bytes:
 
 
 def told_by(tool: str, words: list[str], data: bytes) -> str:
-    """What a tool tells of a program."""
+    """Returns what a tool prints about a program."""
     with tempfile.NamedTemporaryFile() as file:
         file.write(data)
         file.flush()
@@ -98,18 +98,18 @@ def told_by(tool: str, words: list[str], data: bytes) -> str:
 
 
 def usage_of(data: bytes, *words: str) -> str:
-    """The usage that a program prints if it doesn't take its words."""
+    """Returns the usage that a program prints if its arguments are wrong."""
     with tempfile.TemporaryDirectory() as folder:
         put(f"{folder}/program", Member(data, 0o755))
         said = subprocess.run([f"{folder}/program", *words], stdin=subprocess.DEVNULL, stderr=subprocess.PIPE,
                               text=True)
     if said.returncode != 2 or not said.stderr.startswith("usage: "):
-        raise SystemExit(f"release: a program ends with {said.returncode} in place of its usage: {said.stderr!r}")
+        raise SystemExit(f"release: a program ends with {said.returncode} and doesn't print its usage: {said.stderr!r}")
     return said.stderr.removeprefix("usage: ").strip()
 
 
 def manual(name: str, release: Release) -> bytes:
-    """A program's page of the manual, of its own usage."""
+    """Returns a program's manual page, made from its own usage."""
     what, page = MANUAL[name]
     data = release.programs[name]
     usages = [usage_of(data), *([usage_of(data, "member")] if name == "lra_node" else [])]
@@ -130,14 +130,15 @@ if it doesn't take its words.
 
 
 def common(release: Release) -> Files:
-    """What stands in both packages: pages and all that they link to, licences, and what proves the release."""
+    """Returns the files that both packages have: pages and everything that they link to, licences, and the proof of the
+    release."""
     made = {path: Member(bytes_at(path)) for pattern in (*PAGES, *DEPLOYED) for path in found_by(pattern)}
     made |= {path: Member(text.encode()) for path, text in release.texts.items()}
     return made
 
 
 def archive(release: Release) -> Files:
-    """The files of the archive."""
+    """Returns the files of the archive."""
     made = common(release)
     made |= {f"bin/{name}": Member(data, 0o755) for name, data in release.programs.items()}
     made |= {f"bin/{name}": Member(b"", link=program) for name, program in OLD_NAMES.items()}
@@ -149,7 +150,7 @@ def archive(release: Release) -> Files:
 
 
 def debian(release: Release) -> Files:
-    """The files that the package for Debian puts into a system."""
+    """Returns the files that the Debian package puts into a system."""
     made = {f"{DOCS}/{path}": member for path, member in common(release).items() if path != "LICENSE"}
     made |= {f"usr/bin/{name}": Member(data, 0o755) for name, data in release.programs.items()}
     made |= {f"usr/bin/{name}": Member(b"", link=program) for name, program in OLD_NAMES.items()}
@@ -170,7 +171,7 @@ def debian(release: Release) -> Files:
 
 
 def changes(release: Release) -> bytes:
-    """The list of changes as Debian wants it, which leads to the real one."""
+    """Returns the list of changes in Debian's format, which refers to CHANGELOG.md."""
     date = subprocess.run(["date", "--utc", "--rfc-email", f"--date=@{release.time}"], stdout=subprocess.PIPE,
                           env={**os.environ, "LC_ALL": "C"}, check=True, text=True).stdout.strip()
     maintainer = repo.found(r"^Maintainer: (.*)$", repo.read("deploy/debian/control"), re.M)[1]
@@ -184,7 +185,7 @@ def changes(release: Release) -> bytes:
 
 
 def squeezed(data: bytes, level: int = 9) -> bytes:
-    """As gzip writes it, without a time or a name."""
+    """Compresses data with gzip, without a time or a name."""
     made = io.BytesIO()
     with gzip.GzipFile("", "wb", level, made, 0) as file:
         file.write(data)
@@ -192,7 +193,7 @@ def squeezed(data: bytes, level: int = 9) -> bytes:
 
 
 def write_archive(path: str, files: Files, top: str, release: Release) -> None:
-    """Writes an archive of files below one folder, with their folders, in order."""
+    """Writes an archive of the files below one folder, with their folders, in order."""
     folders = {f"{top}/{file}".rpartition("/")[0] for file in files}
     for folder in list(folders):
         while "/" in folder:
@@ -218,7 +219,8 @@ def write_archive(path: str, files: Files, top: str, release: Release) -> None:
 
 
 def needs(programs: Iterable[bytes]) -> str:
-    """The packages of Debian that programs need: those of their libraries, and as new a C library as they ask for."""
+    """Returns the Debian packages that programs need: those of their libraries, with the C library at least as new as
+    they ask for."""
     said = "".join(told_by("readelf", ["--wide", "--dynamic", "--version-info"], data) for data in programs)
     packages = {LIBRARIES[name] for name in re.findall(r"\(NEEDED\).*\[(.*)\]", said)}
     newest = max(int(number) for number in re.findall(r"\bGLIBC_2\.(\d+)", said))
@@ -226,7 +228,7 @@ def needs(programs: Iterable[bytes]) -> str:
 
 
 def control(release: Release, files: Files) -> Files:
-    """The files that tell dpkg what the package is."""
+    """Returns the files that describe the package to dpkg."""
     size = sum(-(-len(member.data) // 1024) for member in files.values())
     text = repo.read("deploy/debian/control")
     values = {"VERSION": release.version, "SIZE": str(size), "LIBRARIES": needs(release.programs.values())}
@@ -243,7 +245,7 @@ def control(release: Release, files: Files) -> Files:
 
 
 def write_debian(path: str, release: Release) -> None:
-    """Writes a package for Debian."""
+    """Writes a Debian package."""
     files = debian(release)
     files |= {f"DEBIAN/{name}": member for name, member in control(release, files).items()}
     with tempfile.TemporaryDirectory() as folder:
@@ -253,7 +255,7 @@ def write_debian(path: str, release: Release) -> None:
             os.chmod(root, 0o755)
             for each in (*(f"{root}/{name}" for name in names), root):
                 os.utime(each, (release.time, release.time), follow_symlinks=False)
-        # (xz in one thread, since more write other bytes)
+        # (xz runs in one thread, since with more threads it writes different bytes)
         words = ["--root-owner-group", "-Zxz", f"-z{release.level}", "--threads-max=1", "--build", folder, path]
         subprocess.run(["dpkg-deb", *words], check=True, stdout=subprocess.DEVNULL,
                        env={**os.environ, "SOURCE_DATE_EPOCH": str(release.time)})

@@ -1,8 +1,8 @@
-"""The page for operators, demo/watch.html, and how it is made shorter.
+"""The operators' page, demo/watch.html, and its minifier.
 
-What goes is indentation, lines of comment, and spaces beside punctuation, in the style and the script alone. It fits
-pages that are written as watch.html is: strings stand in double quotes, and there are no backslashes, no templates and
-no patterns between slashes."""
+Only indentation, comment lines, and spaces beside punctuation go, and only in the style and the script. This works for
+pages written like watch.html: strings stand in double quotes, and there are no backslashes, no templates and no
+patterns between slashes."""
 import re
 from collections.abc import Callable
 
@@ -10,7 +10,7 @@ PAGE = "demo/watch.html"
 
 
 def outside(text: str, change: Callable[[str], str]) -> str:
-    """A text with what stands outside its strings changed."""
+    """Returns a text in which the parts outside its strings are changed."""
     parts = text.split('"')
     return '"'.join(change(part) if at % 2 == 0 else part for at, part in enumerate(parts))
 
@@ -20,7 +20,7 @@ def script(text: str) -> str:
 
     def change(part: str) -> str:
         if set(part) & set("`'\\"):
-            raise SystemExit(f"squeeze: this isn't as the script may be written: {part}")
+            raise SystemExit(f"squeeze: the script may not contain this: {part}")
         return re.sub(r" *([=+*/<>?:,;(){}\[\]&|!]) *", r"\1", part)
 
     return outside(lines, change)
@@ -31,6 +31,6 @@ def style(text: str) -> str:
 
 
 def squeeze(page: str) -> str:
-    """A page with the same meaning in fewer bytes."""
+    """Returns a page with the same meaning in fewer bytes."""
     page = re.sub(r"(?s)(?<=<style>).*?(?=</style>)", lambda found: style(found[0]), page)
     return re.sub(r"(?s)(?<=<script>).*?(?=</script>)", lambda found: script(found[0]), page)

@@ -1,4 +1,4 @@
-"""Ports of this machine: which are free, and who listens there."""
+"""Ports of this machine: which are free, and which process listens there."""
 import contextlib
 import errno
 import os
@@ -6,20 +6,20 @@ import socket
 from collections.abc import Iterable, Iterator
 
 HOST = "127.0.0.1"
-# Where rows of free ports are looked for: below those that the system gives to clients.
+# The range in which free ports are looked for. It lies below the ports that the system gives to clients.
 FIRST, LAST = 20000, 32000
 _next = FIRST + os.getpid() % 100 * 100
 
 
 def is_open(port: int) -> bool:
-    """Whether somebody takes connections at a port."""
+    """Whether something accepts connections at a port."""
     with socket.socket() as probe:
         return probe.connect_ex((HOST, port)) == 0
 
 
 def is_free(port: int) -> bool:
-    """Whether a server could listen at a port. Connections that are still closing don't count, as with the
-    coordinator."""
+    """Whether a server could listen at a port. As with the coordinator, connections that are still closing don't
+    count."""
     with socket.socket() as probe:
         probe.setsockopt(socket.SOL_SOCKET, socket.SO_REUSEADDR, 1)
         try:
@@ -30,7 +30,7 @@ def is_free(port: int) -> bool:
 
 
 def free_row(count: int) -> list[int]:
-    """So many free ports in a row, others each time."""
+    """Returns this many free ports in a row, different ones each time."""
     global _next
     while True:
         row = list(range(_next, _next + count))
@@ -40,16 +40,15 @@ def free_row(count: int) -> list[int]:
 
 
 def listening() -> Iterator[tuple[str, str]]:
-    """Each address of TCP at which somebody listens, as the kernel spells it, with its socket."""
+    """Returns each TCP address at which something listens, as the kernel spells it, with its socket."""
     with open("/proc/net/tcp", encoding="ascii") as file:
         rows = [line.split() for line in file.readlines()[1:]]
-    # Of a row the second field is the address, the fourth the state, where 0A stands for listening, and the tenth the
-    # socket.
+    # In a row the second field is the address, the fourth the state (0A means listening), and the tenth the socket.
     return ((row[1], row[9]) for row in rows if row[3] == "0A")
 
 
 def sockets_of(process: int) -> Iterator[str]:
-    """What /proc names the sockets and files that a process has open."""
+    """Yields the names that /proc has for the open sockets and files of a process."""
     folder = f"/proc/{process}/fd"
     with contextlib.suppress(OSError):  # it has ended
         for name in os.listdir(folder):
@@ -58,8 +57,8 @@ def sockets_of(process: int) -> Iterator[str]:
 
 
 def listens_at(process: int, ports: Iterable[int]) -> bool:
-    """Whether a process itself listens at all these ports of 127.0.0.1. A connection would tell no more than that
-    somebody answers there."""
+    """Whether a process itself listens at all these ports of 127.0.0.1. A connection would only show that something
+    answers there."""
     own = set(sockets_of(process))
     held = {address for address, number in listening() if f"socket:[{number}]" in own}
     return all(f"0100007F:{port:04X}" in held for port in ports)

@@ -1,21 +1,21 @@
-"""How the kit's prover is called for a crate of this repository, over the libraries below it."""
+"""How to call the kit's prover for a crate of this repository, over the libraries below it."""
 import os
 import sys
 from collections.abc import Iterable, Mapping
 
 from tools.repo import TOP, Crates, below
 
-# Of each library, the lowest first: the folder in which it stands built, or nothing where its sources are to be read.
+# For each library, the lowest first: the folder with its build, or `None` if its sources are to be read.
 Places = Mapping[str, str | None]
 
 
 def tops() -> list[str]:
-    """The repositories in which libraries may stand built: those that BUILT names, and this one."""
+    """Returns the repositories in which built libraries are looked for: those that BUILT names, and this one."""
     return [top for top in [*os.environ.get("BUILT", "").split(":"), TOP] if top]
 
 
 def built(name: str, among: Iterable[str]) -> str | None:
-    """Where a library stands built, or nothing."""
+    """Returns the folder with a library's build, or `None`."""
     for top in among:
         if os.path.isfile(f"{top}/crates/{name}/out/rlib/{name}.rlib/format"):
             return f"{top}/crates/{name}/out/rlib"
@@ -23,7 +23,8 @@ def built(name: str, among: Iterable[str]) -> str | None:
 
 
 def places(names: Iterable[str], libraries: Crates) -> Places:
-    """Where each library is taken from. One that stands over sources is read too, and so is each that SOURCE names."""
+    """Returns where each library is taken from. A library above one whose sources are read is read from its sources
+    too, and so is each library that SOURCE names."""
     found: dict[str, str | None] = {}
     for name in names:
         is_whole = all(found[used] for used in below(name, libraries))
@@ -33,7 +34,7 @@ def places(names: Iterable[str], libraries: Crates) -> Places:
 
 
 def words(kit: str, name: str, libraries: Crates, found: Places, folder: str | None = None) -> list[str]:
-    """The words with which the prover is called. The crate stands in crates, or in another folder."""
+    """Returns the arguments for the prover. The crate stands in crates, or in another folder."""
     read = [library for library, place in found.items() if not place]
     of_kit = {used for crate in [name, *read] for used in libraries[crate] if used not in libraries}
     of_kit |= {"core"} if read else set()
@@ -53,6 +54,6 @@ def words(kit: str, name: str, libraries: Crates, found: Places, folder: str | N
 
 
 def tell_sources(found: Places) -> None:
-    """Says which libraries are read from their sources."""
+    """Prints which libraries are read from their sources."""
     names = [library for library, place in found.items() if not place]
     print(f"sources: {' '.join(names) or 'none'}", file=sys.stderr, flush=True)

@@ -1,4 +1,4 @@
-"""What README starts with, line by line: the server, the participant, and what is said to them."""
+"""The quick start in README, line by line: the server, the participant, and the commands."""
 import re
 import subprocess
 import time
@@ -8,8 +8,8 @@ from tools import repo
 
 
 class QuickStart(typing.NamedTuple):
-    """What README starts with: the server's words, the participant's command, and what is done then. That is each line
-    with what it prints, if README says so, and in its place what the participant prints, as a line that isn't there."""
+    """The quick start in README: the server's arguments, the participant's command, and the steps after that. A step is
+    a line with what it prints, if README says so. What the participant prints is a step of its own, without a line."""
 
     nodes: int
     port: int
@@ -36,12 +36,13 @@ def quick_start() -> QuickStart:
 
 
 def is_question(line: str) -> bool:
-    """Whether a line asks and changes nothing, so that it may be asked again until what is under way has come about."""
+    """Whether a line only asks and changes nothing, so that it may be repeated until the expected answer comes."""
     return line.startswith("curl ") and " -X " not in line
 
 
 def printed_by(shell: subprocess.Popen, line: str, wanted: str) -> str:
-    """What a line prints in a shell. One that asks is given again until it prints what is wanted, or for 20 seconds."""
+    """Runs a line in a shell, and returns what it prints. A line that only asks is repeated until it prints what is
+    wanted, or for 20 seconds."""
     end = time.monotonic() + (20 if is_question(line) else 0)
     assert shell.stdin and shell.stdout
     while True:

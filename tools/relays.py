@@ -1,4 +1,5 @@
-"""Relays between members, which lose, delay, slow down or stop what passes them, and members that meet through them."""
+"""Relays between members, which lose, delay, slow down or stop what passes through them, and members that connect
+through them."""
 import contextlib
 import socket
 import threading
@@ -11,9 +12,9 @@ from tools.ports import HOST
 
 
 class Relay:
-    """Hands connections on to a port, each after a delay, the first few not at all, and what comes back at so many
-    bytes a second. Each piece lags, both ways. While the relay is cut nothing passes, and no connection ends; then what
-    came meanwhile does. Of what is asked some bytes may be swapped for others."""
+    """Forwards connections to a port, each after a delay, and drops the first few. Answers pass at `rate` bytes a
+    second. Each piece lags, both ways. While the relay is cut nothing passes and no connection ends; afterwards
+    whatever came meanwhile passes. Some bytes of requests may be replaced."""
 
     def __init__(self, port: int, delay: float = 0, lost: int = 0, rate: float = 0) -> None:
         self.port, self.delay, self.lost, self.rate = port, delay, lost, rate
@@ -43,7 +44,7 @@ class Relay:
             self.answer(other, line)
 
     def ask(self, source: socket.socket, sink: socket.socket) -> None:
-        """Hands on what is asked, up to its end."""
+        """Forwards a request, up to its end."""
         with contextlib.suppress(OSError):
             while source.recv(1, socket.MSG_PEEK):
                 self.wait()
@@ -52,7 +53,7 @@ class Relay:
             sink.shutdown(socket.SHUT_WR)
 
     def answer(self, source: socket.socket, sink: socket.socket) -> None:
-        """Hands on what comes back, up to its end."""
+        """Forwards an answer, up to its end."""
         with contextlib.suppress(OSError):
             while source.recv(1, socket.MSG_PEEK):
                 self.wait()
@@ -62,7 +63,7 @@ class Relay:
             sink.shutdown(socket.SHUT_WR)
 
     def wait(self) -> None:
-        """Waits for as long as a piece lags, and while the relay is cut."""
+        """Waits for the lag of a piece, and while the relay is cut."""
         time.sleep(self.lag)
         self.passes.wait()
 
@@ -71,7 +72,7 @@ class Relay:
 
 
 class Relayed(Operated):
-    """Members that reach one another through relays."""
+    """Members that reach each other through relays."""
 
     def __init__(self, count: int, folder: str, *options: str) -> None:
         super().__init__(count, folder, *options)
@@ -85,7 +86,7 @@ class Relayed(Operated):
 
 
 class Paired(Relayed):
-    """Members that reach each other one by a relay of its own, by who asks and who is asked."""
+    """Members with a relay for each pair of an asking and an asked node."""
 
     def __init__(self, count: int, folder: str, *options: str) -> None:
         super().__init__(count, folder, *options)
@@ -97,11 +98,11 @@ class Paired(Relayed):
         return [f"{HOST}:{relay.own}" for relay in relays]
 
     def relays_of(self, number: int) -> list[Relay]:
-        """Those through which a node asks others, and others ask it."""
+        """Returns the relays through which a node asks peers, and peers ask it."""
         return [relay for pair, relay in self.pairs.items() if number in pair]
 
     def cut(self, number: int) -> None:
-        """Cuts a node from all others, both ways."""
+        """Cuts a node off from all others, both ways."""
         for relay in self.relays_of(number):
             relay.passes.clear()
 

@@ -1,19 +1,21 @@
 #!/usr/bin/env python3
 """Makes a release's packages: python3 tools/release.py [--gate FILE] [--unproved] [OUT]
 
-They come into release/, or OUT, and only out of what the gate passed and built: it runs `rt ci` at the top, unless FILE
-has what that has just said in this very tree, as `.ci/run | tee /tmp/gate` leaves it. It refuses a tree that isn't the
-commit's, another kit than the version names, and crates or programs that aren't those of the commit that the release
-was cut from.
-The same commit, kit and programs give the same bytes, by the same tools of Debian: every time is the commit's.
+They are written to release/, or to OUT, and only from what the gate passed and built: this runs `rt ci` at the top,
+unless FILE has what the gate has just printed in this very tree, as `.ci/run | tee /tmp/gate` leaves it. It refuses a
+tree that differs from the commit, a kit that the version doesn't name, and crates or programs that aren't those of the
+commit from which the release was cut.
+
+The same commit, kit and programs give the same bytes with the same Debian tools: every time stamp is the commit's.
 
 --unproved packs the unproved builds (tools/unproved.py), to try the packages; nothing is proved then.
 
-python3 tools/release.py cut X.Y.Z writes the version of a release that is cut from the commit that is here. Commit
-that before the gate. python3 tools/release.py next X.Y.Z says that what comes behind a release is to be X.Y.Z: with the
-first change of a crate. python3 tools/release.py check says what doesn't fit the version, and ends with 1 then.
+python3 tools/release.py cut X.Y.Z writes the version of a release that is cut from the current commit. Commit that
+before the gate. python3 tools/release.py next X.Y.Z writes that the work after a release will become X.Y.Z: run it with
+the first change of a crate. python3 tools/release.py check prints what doesn't agree with the version, and then exits
+with 1.
 
-Standard library alone, beside dpkg-deb and binutils."""
+Uses only the standard library, dpkg-deb and binutils."""
 import hashlib
 import os
 import re
@@ -29,7 +31,7 @@ from tools.repo import TOP
 from tools.version import Build, build_said
 
 PASSED = r"(\d+) passed, 0 failed"
-# The programs that say which commit they are of.
+# The programs that print the commit that they are from.
 TELLING = ("lra_node", "lra_gateway")
 NO_TEXT = "The kit has no licence text of its own for these of its parts:"
 
@@ -39,14 +41,14 @@ def refuse(why: str) -> None:
 
 
 def need_release(said: Build, kit: str) -> None:
-    """Ends where this tree and this kit aren't those of a release."""
+    """Exits unless this tree and this kit are those of a release."""
     changed = git("status", "--porcelain", "--untracked-files=all")
     if changed:
-        refuse(f"the tree isn't the commit's:\n{changed}")
+        refuse(f"the tree differs from the commit:\n{changed}")
     if not cuts.is_released(said):
         refuse(f"{said.version} isn't a release: python3 tools/release.py cut X.Y.Z makes it one")
     if kit.split(" ")[0] != said.kit:
-        refuse(f"the version names {said.kit}, and here is {kit}")
+        refuse(f"the version names {said.kit}, but the kit here is {kit}")
     if not cuts.is_in_history(said.commit):
         refuse(f"{said.commit}, from which {said.version} was cut, isn't in this history")
     for wrong in cuts.misfits():
@@ -54,7 +56,8 @@ def need_release(said: Build, kit: str) -> None:
 
 
 def last_line(file: str | None) -> str:
-    """The gate's last line. It is run, unless a file has what it said: then nothing is newer than that."""
+    """Returns the gate's last line. Runs the gate, unless a file has its output; then no source or program may be
+    newer."""
     if file is None:
         text = ""
         with subprocess.Popen(["rt", "ci"], cwd=TOP, stdout=subprocess.PIPE, text=True) as gate:
@@ -67,7 +70,7 @@ def last_line(file: str | None) -> str:
         text, told = repo.read(os.path.abspath(file)), os.path.getmtime(file)
         if told < int(git("log", "-1", "--format=%ct")):
             refuse(f"{file} is older than the commit")
-        # (a source is newer where another commit was here meanwhile)
+        # (sources are newer if another commit was checked out meanwhile)
         for path in [*map(repo.program, PROGRAMS), *git("ls-files", "--", *cuts.COMPILED).split("\n")]:
             path = os.path.join(TOP, path)
             if os.path.exists(path) and os.path.getmtime(path) > told:
@@ -83,7 +86,7 @@ def last_line(file: str | None) -> str:
 
 
 def parts_linked(kit: str) -> list[str]:
-    """The parts of the kit that are linked in: what the crates use, and what that stands on."""
+    """Returns the parts of the kit that are linked in: those that the crates use, and those below them."""
     ours = repo.crates()
     left = [used for name in PROGRAMS for crate in [*repo.below(name, ours), name] for used in ours[crate]]
     found: set[str] = set()
@@ -97,7 +100,7 @@ def parts_linked(kit: str) -> list[str]:
 
 
 def licences(kit: str) -> dict[str, str]:
-    """The licence texts of what is linked in, by paths, and a list of what has none."""
+    """Returns the licence texts of the linked parts, by paths, and a list of the parts that have none."""
     made, without = {}, []
     for name in parts_linked(kit):
         folder = f"{kit}/rattle/{name}"
@@ -112,7 +115,7 @@ def sums_of(programs: dict[str, bytes]) -> list[str]:
 
 
 def proof(said: Build, kit: str, gate: str, built: dict[str, bytes], packed: dict[str, bytes]) -> str:
-    """What the file PROVED says."""
+    """Returns the text of the file PROVED."""
     lines = [f"version   {said.version}", f"commit    {git('rev-parse', 'HEAD')}", f"cut from  {said.commit}",
              f"kit       {kit}", f"gate      {gate}", f"tree      {git('rev-parse', 'HEAD^{tree}')}",
              f"sources   {text_sum()}", "", "SHA-256 of the programs here:", *sums_of(packed), "",
@@ -123,7 +126,7 @@ def proof(said: Build, kit: str, gate: str, built: dict[str, bytes], packed: dic
 
 
 def gather(is_proved: bool, gate_file: str | None) -> Release:
-    """What is packed."""
+    """Gathers what is packed."""
     said, kit, time = build_said(), cuts.kit_here(), int(git("log", "-1", "--format=%ct"))
     if not is_proved:
         paths = {name: f"{os.path.dirname(unproved.compiled(name))}/program" for name in PROGRAMS}
@@ -132,7 +135,7 @@ def gather(is_proved: bool, gate_file: str | None) -> Release:
         return Release(number, time, packed, licences(repo.kit()), level=1)
     need_release(said, kit)
     head, gate = git("rev-parse", "HEAD"), last_line(gate_file)
-    # The gate takes hours: somebody may have changed something meanwhile.
+    # The gate takes hours, so something may have changed meanwhile.
     if git("rev-parse", "HEAD") != head:
         refuse(f"another commit came while the gate ran over {head}")
     need_release(said, kit)
@@ -146,7 +149,7 @@ def gather(is_proved: bool, gate_file: str | None) -> Release:
 
 
 def write_all(release: Release, out: str) -> None:
-    """Writes the packages into a folder, and their sums."""
+    """Writes the packages into a folder, and their checksums."""
     os.makedirs(out, exist_ok=True)
     top = f"{NAME}-{release.version}-linux-x86_64"
     names = [f"{top}.tar.gz", f"{NAME}_{release.version}_amd64.deb"]

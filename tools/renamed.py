@@ -1,11 +1,11 @@
 #!/usr/bin/env python3
-"""Turns a diff over the crates' old names, which all began with lra_, into one over the new ones:
+"""Turns a diff over the crates' old names, which all began with lra_, into one over the new names:
 
     python3 tools/renamed.py OLD.diff >NEW.diff
 
-Notes, issues and older entries of CHANGELOG.md speak in old names too: `python3 tools/renamed.py --table` prints each
-old name of a crate, a file or a type with its new one. OLD.diff is read as one over the last commit with the old names,
-which BEFORE names. Standard library alone."""
+Notes, issues and older entries of CHANGELOG.md use old names too: `python3 tools/renamed.py --table` prints each old
+name of a crate, a file or a type with its new one. OLD.diff is read as a diff over the last commit with the old names,
+which BEFORE names. Uses only the standard library."""
 import argparse
 import pathlib
 import re
@@ -54,7 +54,7 @@ CRATES = {
     "lra_life": "sim_node",
 }
 
-# Each file of a crate (by its old name) that has another name now, without its ending.
+# Each file of a crate (by its old name) that has been renamed, without its extension.
 FILES = {
     "lra_replica": {"copies": "clones"},
     "lra_book": {"copies": "clones"},
@@ -80,7 +80,7 @@ FILES = {
     "lra_sim": {"words": "texts"},
 }
 
-# Each type of a crate (by its old name) that has another name now.
+# Each type of a crate (by its old name) that has been renamed.
 TYPES = {
     "lra_gateway": {
         "Act": "ServiceCall",
@@ -156,7 +156,7 @@ TYPES = {
     "lra_script": {"Room": "ReservedText"},
 }
 
-# Crates of the kit that the repository uses, and those whose names begin so.
+# Crates of the kit that the repository uses, and the beginnings of other crates' names.
 KIT = {"std", "core", "arrayvec", "base64", "http", "httparse", "itoa", "log", "matchit", "percent_encoding",
        "serde_json", "sha2", "url", "uuid"}
 BEGINNINGS = ("lra_", "sqlite", "test_")
@@ -165,7 +165,7 @@ WORD = r"(?<![\w]){}(?![\w])"
 
 
 def crate_of(path: str) -> str:
-    """The crate, by its old name, whose file this is, or of whose code it is a wrong body; else nothing."""
+    """Returns the crate, by its old name, to which a file or a wrong body belongs, or an empty string."""
     parts = path.split("/")
     for room in ("crates", "wrong"):
         if room in parts[:-1] and parts.index(room) + 1 < len(parts):
@@ -174,12 +174,12 @@ def crate_of(path: str) -> str:
 
 
 def is_foreign(head: str, crate: str) -> bool:
-    """Whether a path that begins so leads out of the crate."""
+    """Whether a path with this beginning leads out of the crate."""
     return head.split(".")[0] != crate and (head in KIT or head.startswith(BEGINNINGS))
 
 
 def brought(text: str) -> dict[str, set[str]]:
-    """Which names a file brings in from each crate (by its old name), save under another name."""
+    """Returns the names that a file imports from each crate (by its old name), except those that it renames."""
     found: dict[str, set[str]] = {}
     for head, rest in re.findall(r"^\s*(?:pub(?:\(\w+\))? )?use (\w+)::([^;]*);", text, re.M):
         names = re.sub(r"\b\w+ as \w+", "", rest)
@@ -194,7 +194,7 @@ def brought(text: str) -> dict[str, set[str]]:
 
 
 def meant(path: str, text: str) -> dict[str, tuple[str, str]]:
-    """The old names that stand alone in a file for types, each with the crate whose it is and the new name."""
+    """Returns the old names of types that stand alone in a file, each with its crate and its new name."""
     own, names = crate_of(path), brought(text)
     found: dict[str, tuple[str, str]] = {}
     for crate, types in TYPES.items():
@@ -210,8 +210,8 @@ def meant(path: str, text: str) -> dict[str, tuple[str, str]]:
 
 
 def stands_alone(text: str, at: int, name: str) -> bool:
-    """Whether the name that stands there is a type's: no variant, no English word of a comment, no name of another
-    crate, and no file of definitions."""
+    """Whether the name at this place is a type's name, and not a variant, an English word of a comment, a name of
+    another crate, or a file of definitions."""
     before = text[max(0, at - 600) : at]
     line = text[text.rfind("\n", 0, at) + 1 : text.find("\n", at) if "\n" in text[at:] else len(text)]
     if re.match(rf"    {name}(\(|,$| \{{$)", line):
@@ -232,7 +232,7 @@ def stands_alone(text: str, at: int, name: str) -> bool:
 
 
 def renamed_paths(text: str) -> str:
-    """The text with the new names of types where the crate or the file is said with them."""
+    """Returns the text with the new names of types that are written with their crate or file."""
     for crate, types in TYPES.items():
         for old, new in types.items() if crate in text else ():
             proof = rf"(Rattle\.{crate}\.proofs\.(?:[a-z_]+\.)+){old}(?=\.[a-z])"
@@ -256,7 +256,7 @@ def renamed_paths(text: str) -> str:
 
 
 def renamed(path: str, text: str, scope: str | None = None) -> str:
-    """The text with new names; `scope` is the whole file that it is of."""
+    """Returns the text with new names; `scope` is the whole file that it belongs to."""
     own = crate_of(path)
     for old, (crate, new) in meant(path, text if scope is None else scope).items():
         text = re.sub(WORD.format(old), lambda m: new if stands_alone(text, m.start(), old) else m[0], text)
@@ -280,7 +280,7 @@ def renamed(path: str, text: str, scope: str | None = None) -> str:
 
 
 def renamed_path(path: str) -> str:
-    """Where a file stands now."""
+    """Returns the present path of a file."""
     own = crate_of(path)
     for old, new in FILES.get(own, {}).items():
         path = re.sub(rf"(crates/{own}/src/){re.escape(old)}(?=\.rt$|/)", lambda m: m[1] + new, path)
@@ -291,13 +291,13 @@ def renamed_path(path: str) -> str:
 
 
 def old_text(path: str) -> str:
-    """The file as it stood with the old names; empty if it wasn't there."""
+    """Returns the file as it was with the old names, or an empty string if it didn't exist."""
     shown = subprocess.run(["git", "show", f"{BEFORE}:{path}"], cwd=TOP, capture_output=True, text=True)
     return shown.stdout if shown.returncode == 0 else ""
 
 
 def new_diff(diff: str) -> str:
-    """The diff over new names."""
+    """Returns the diff over new names."""
     out, path, scope = [], "", ""
     for line in diff.split("\n"):
         head = re.match(r"(--- a/|\+\+\+ b/|rename from |rename to )(.*)$", line)
@@ -317,7 +317,7 @@ def new_diff(diff: str) -> str:
 
 
 def diff_of(diff: str, path: str) -> str:
-    """The lines that a diff adds to a file."""
+    """Returns the lines that a diff adds to a file."""
     part = re.search(rf"^\+\+\+ b/{re.escape(path)}$(.*?)(?=^diff --git |^--- a/|\Z)", diff, re.M | re.S)
     return "\n".join(line[1:] for line in part[1].split("\n") if line.startswith("+")) if part else ""
 
@@ -337,7 +337,7 @@ def print_table() -> None:
 def main() -> int:
     words = argparse.ArgumentParser(description="Turns a diff over the crates' old names into one over the new ones.")
     words.add_argument("--table", action="store_true", help="print each old name with its new one")
-    words.add_argument("diff", nargs="?", help="the diff; standard input, if it isn't named")
+    words.add_argument("diff", nargs="?", help="the diff; standard input if it isn't given")
     given = words.parse_args()
     if given.table:
         print_table()

@@ -1,4 +1,4 @@
-"""Compares answers of the operator's port with docs/operate.json."""
+"""Compares answers of the operators' port with docs/operate.json."""
 import functools
 import json
 import re
@@ -10,12 +10,12 @@ TYPES: dict[str, type] = {"object": dict, "array": list, "string": str, "integer
 
 
 def operate() -> Json:
-    """What docs/operate.json has."""
+    """Returns the content of docs/operate.json."""
     return json.loads(repo.read("docs/operate.json"))
 
 
 def follow(text: Json, part: Json) -> Json:
-    """What a reference leads to; anything else is itself."""
+    """Returns what a reference leads to; anything else is returned as it is."""
     while "$ref" in part:
         words = part["$ref"].removeprefix("#/").split("/")
         part = functools.reduce(lambda above, word: above[word], words, text)
@@ -23,15 +23,15 @@ def follow(text: Json, part: Json) -> Json:
 
 
 def differences(text: Json, schema: Json, value: Json, place: str = "") -> list[str]:
-    """Where a value isn't as its schema has it, a line each."""
+    """Returns a line for each place where a value doesn't match its schema."""
     schema, place = follow(text, schema), place or "the answer"
     if "oneOf" in schema:
         fits = [not differences(text, choice, value, place) for choice in schema["oneOf"]]
-        return [] if sum(fits) == 1 else [f"{place} fits {sum(fits)} of {len(fits)}: {value}"]
+        return [] if sum(fits) == 1 else [f"{place} matches {sum(fits)} of {len(fits)} choices: {value}"]
     if value is None and schema.get("nullable"):
         return []
     if not isinstance(value, TYPES[schema["type"]]) or schema["type"] == "integer" and isinstance(value, bool):
-        return [f"{place} is no {schema['type']}: {value}"]
+        return [f"{place} isn't of type {schema['type']}: {value}"]
     wrong = bounds(schema, value, place)
     if isinstance(value, dict):
         given = schema.get("properties", {})
@@ -49,7 +49,7 @@ def differences(text: Json, schema: Json, value: Json, place: str = "") -> list[
 
 
 def bounds(schema: Json, value: Json, place: str) -> list[str]:
-    """Where a value is out of what its schema allows."""
+    """Returns a line for each limit of its schema that a value breaks."""
     wrong = []
     if "enum" in schema and value not in schema["enum"]:
         wrong.append(f"{place} is {value}")
@@ -64,7 +64,7 @@ def bounds(schema: Json, value: Json, place: str) -> list[str]:
 
 
 def of_answer(text: Json, path: str, verb: str, code: int, value: Json) -> list[str]:
-    """Where an answer with a body of JSON isn't as the file has it. The path is as the file has it."""
+    """Returns where an answer with a JSON body doesn't match the file. The path is spelled as in the file."""
     response = follow(text, text["paths"][path][verb]["responses"].get(str(code), {}))
     if "application/json" not in response.get("content", {}):
         return [f"{verb} {path} has no answer {code} with a body"]
@@ -72,13 +72,14 @@ def of_answer(text: Json, path: str, verb: str, code: int, value: Json) -> list[
 
 
 def fetched(url: str) -> tuple[int, Json]:
-    """The status and the JSON of an answer."""
+    """Requests a URL, and returns the status and the JSON of the answer."""
     answer = fetch(url)
     return answer.status, answer.json()
 
 
 def compare(node: str) -> list[str]:
-    """Asks a node for all that changes nothing, and for the first LRAs with their members."""
+    """Makes all requests to a node that change nothing, also for the first LRAs with their members. Returns what
+    doesn't match docs/operate.json."""
     text, wrong, ids = operate(), [], list[str]()
     for path in ("/health", "/ready", "/calls"):
         wrong += of_answer(text, path, "get", *fetched(node + path))

@@ -1,5 +1,6 @@
-"""The tests that need no proof: the crates under tests/units. Each has its files as NAME/x.rt.txt, since no .rt file
-may stand outside a listed crate, and first in lib.rt.txt a line '// Uses: LIBRARY ..', its line of crates.txt."""
+"""The tests that need no proof: the crates under tests/units. A crate's files are named NAME/x.rt.txt, since no .rt
+file may stand outside a listed crate. The first line of lib.rt.txt is '// Uses: LIBRARY ..', from which its line of
+crates.txt is made."""
 import os
 import re
 import tempfile
@@ -11,19 +12,19 @@ UNITS = "tests/units"
 
 
 def names() -> list[str]:
-    """The test crates, in order."""
+    """Returns the test crates, in order."""
     return [os.path.basename(path) for path in repo.files(f"{UNITS}/*")]
 
 
 def texts(name: str) -> dict[str, str]:
-    """The files of a test crate, by the .rt files that they stand for."""
+    """Returns the files of a test crate, by the names of the .rt files that they become."""
     folder = f"{UNITS}/{name}/"
     paths = repo.files(f"{folder}**/*.rt.txt")
     return {path.removeprefix(folder).removesuffix(".txt"): repo.read(path) for path in paths}
 
 
 def add(copy: str, name: str) -> int:
-    """Puts a test crate into a copy of the repository. How many tests it has."""
+    """Puts a test crate into a copy of the repository, and returns how many tests it has."""
     found = texts(name)
     uses = re.match(r"// Uses: (.*)\n", found.get("lib.rt", ""))
     if not uses:
@@ -33,7 +34,7 @@ def add(copy: str, name: str) -> int:
 
 
 def copied(crates: Iterable[str]) -> tuple[tempfile.TemporaryDirectory, dict[str, int]]:
-    """A copy of the repository with some test crates, and how many tests each has."""
+    """Returns a copy of the repository with some test crates, and how many tests each has."""
     folder = tempfile.TemporaryDirectory(prefix="units-")
     repo.copy_crates(folder.name)
     chosen = list(crates)

@@ -1,4 +1,4 @@
-"""Which build the programs say that they are: the constants of crates/program_args/src/version.rt."""
+"""Which build the programs say they are: the constants of crates/program_args/src/version.rt."""
 import re
 import typing
 
@@ -15,16 +15,16 @@ class Build(typing.NamedTuple):
     kit: str
 
     def line(self, program: str) -> str:
-        """What a program answers to --version."""
+        """Returns what a program answers to --version."""
         return f"{program} {self.version}, commit {self.commit}, {self.kit}\n"
 
 
 def constant(name: str, text: str) -> re.Match[str]:
-    """Where a constant stands in the source: what is before its value, and the value."""
+    """Finds a constant in the source: the text before its value, and the value."""
     return repo.found(rf'(pub const {name}: &str =\s*")([^"]*)";', text)
 
 
 def build_said() -> Build:
-    """What the constants say."""
+    """Returns the build that the constants describe."""
     text = repo.read(FILE)
     return Build(*(constant(name, text)[2] for name in CONSTANTS))

@@ -1,6 +1,5 @@
-"""Members in network namespaces of their own, over a wire that takes its time and loses packets. Needs root,
-/dev/net/tun and `ip`; the kernel's netem isn't needed. Nothing stays behind: a namespace goes with its last process and
-file."""
+"""Members in network namespaces of their own, over a network that delays and loses packets. Needs root, /dev/net/tun
+and `ip`, but not the kernel's netem. Nothing stays behind: a namespace goes with its last process and file."""
 import contextlib
 import ctypes
 import fcntl
@@ -25,14 +24,14 @@ PORT = 8070
 
 
 def must(code: int) -> None:
-    """Raises what a call of the C library refused with."""
+    """Raises an error if a call of the C library failed."""
     if code:
         error = ctypes.get_errno()
         raise OSError(error, os.strerror(error))
 
 
 def enter(namespace: int) -> None:
-    """Has this thread make its next sockets in a namespace."""
+    """Makes this thread open its next sockets in a namespace."""
     must(LIBC.setns(namespace, NEW_NET))
 
 
@@ -41,14 +40,14 @@ def own_namespace() -> int:
 
 
 class Wire:
-    """So many namespaces, I with the address 10.77.0.I, and a thread that hands on the packets between them, or
-    doesn't."""
+    """A number of namespaces, of which number I has the address 10.77.0.I, and a thread that forwards or drops the
+    packets between them."""
 
     def __init__(self, count: int, delay: float, loss: float) -> None:
         self.delay, self.loss, self.dice, self.sent, self.lost = delay, loss, random.Random(60), 0, 0
         self.home = own_namespace()
         self.namespaces: dict[int, int] = {}
-        # Those whose machine is lost: nothing comes from there, and nothing gets there.
+        # The nodes whose machine is lost: no packet leaves or reaches them.
         self.cut: set[int] = set()
         self.devices: dict[int, int] = {}
         for number in range(1, count + 1):
@@ -111,7 +110,7 @@ class Wire:
 
 
 class GroupApart(Group):
-    """Members each in a namespace of its own; a client reaches each in its namespace."""
+    """Members that each have a namespace of their own, in which clients reach them."""
 
     def __init__(self, net: Wire, folder: str, *options: str) -> None:
         super().__init__(len(net.namespaces), folder, *options)
@@ -135,15 +134,15 @@ class GroupApart(Group):
 
 
 class GroupNamed(GroupApart):
-    """Members that find each other by name, as lra2. A node may move to another namespace, with its folder and its
-    name, as where an orchestrator starts it on another machine over the same volume."""
+    """Members that find each other by name, such as lra2. A node may move to another namespace with its folder and its
+    name, as when an orchestrator starts it on another machine over the same volume."""
 
     def __init__(self, net: Wire, folder: str, count: int, *options: str) -> None:
         Group.__init__(self, count, folder, *options)
         self.net, self.places = net, {number: number for number in range(1, count + 1)}
         self.addresses = [f"lra{number}:{PORT}" for number in self.places]
         self.write_names()
-        # The program sees names of its own: in a mount namespace, which goes with it.
+        # The program sees its own host names, in a mount namespace that ends with it.
         run = f"mount --bind {folder}/hosts /etc/hosts && exec {Group.program}"
         self.program = f"{folder}/named"
         with open(self.program, "w", encoding="utf-8") as file:
@@ -151,12 +150,12 @@ class GroupNamed(GroupApart):
         os.chmod(self.program, 0o755)
 
     def write_names(self) -> None:
-        """Says where each name leads now. It stays the same file."""
+        """Writes where each name leads now. The file stays the same file."""
         with open(f"{self.folder}/hosts", "w", encoding="utf-8") as file:
             file.writelines(f"10.77.0.{place} lra{number}\n" for number, place in self.places.items())
 
     def move(self, node: int, place: int) -> None:
-        """Has a node's name lead to another namespace, in which it is started then."""
+        """Makes a node's name lead to another namespace. The node is started there afterwards."""
         self.places[node] = place
         self.write_names()
 
