@@ -1,10 +1,12 @@
 #!/usr/bin/env python3
-"""Tests the gateway as services with LRA annotations meet it: python3 tests/gateway.py [PROGRAM [MEMBER]] [TEST..].
+"""Tests the gateway from the side of services with LRA annotations: python3 tests/gateway.py [PROGRAM [MEMBER]]
+[TEST..].
 
-It starts three nodes, a gateway before them, and services that send what Narayana's client sends (tools/narayana.py).
-PROGRAM is the gateway, crates/lra_gateway/out/lra_gateway, and MEMBER a node, crates/lra_node/out/lra_node;
---unproved stands for either, and alone for both, as tools/unproved.py compiles them. Without a TEST it does all, some
-two minutes. Each check prints a line; the status is 1 where one fails. Standard library alone."""
+It starts three nodes, a gateway in front of them, and services that send what Narayana's client sends
+(tools/narayana.py). PROGRAM is the gateway, crates/lra_gateway/out/lra_gateway, and MEMBER a node,
+crates/lra_node/out/lra_node. --unproved may replace either, and alone replaces both, as tools/unproved.py compiles
+them. Without a TEST it runs all tests, which takes some two minutes. Each check prints a line. Exits with 1 if a check
+fails. Uses only the standard library."""
 import concurrent.futures
 import contextlib
 import http.client
@@ -33,22 +35,22 @@ from tools.participant import Reply, chunks_of
 from tools.ports import HOST, free_row, is_open
 from tools.version import build_said
 
-# Nobody purges here, and calls are answered at their end, however slow the machine is.
+# Nodes purge nothing during these tests, and calls are answered at their end, however slow the machine is.
 KEEP, PATIENT = "keep=60000", ("wait=20000", "again=60000")
 FULL = ("compensate", "complete", "status", "forget", "after", "leave")
 NONE = "00000000-0000-8001-8000-0000000fffff"
 OTHERS = "http://other:8080/lra-coordinator/0_ffff7f000001_9edb_65f0c1_2"
-# What participants answer who can't compensate, and answers to it that aren't one of done.
+# Answers of participants that can't compensate, and answers to a compensate call that don't count as done.
 FAILED: tuple[Reply, ...] = (409, (200, b"FailedToCompensate"), (200, b"\"FailedToCompensate\""),
                              (409, b"FailedToCompensate"))
 ODD: tuple[Reply, ...] = ((200, b"Completed"), (200, b"Active"), 404, 500, 302, 412, (200, b"x" * 70_000))
-# What a client of Java asks that would rather speak HTTP/2.
+# What a Java client sends that would prefer HTTP/2.
 UPGRADE = ("Connection: Upgrade, HTTP2-Settings", "Upgrade: h2c", "HTTP2-Settings: AAMAAABkAAQAAP__")
 
 
 class Rough:
-    """A participant that answers each call with the next of some texts, and closes; with the last of them again and
-    again."""
+    """A participant that answers each call with the next of some texts, and closes the connection. It repeats the last
+    text."""
 
     def __init__(self, *answers: bytes, host: str = HOST) -> None:
         self.answers, self.count = answers, 0
@@ -72,7 +74,7 @@ class Rough:
 
 
 def read_head(line: socket.socket) -> bytes:
-    """The head that comes over a connection, or what comes of it."""
+    """Reads the head that comes over a connection, or as much of it as comes."""
     head = b""
     while not head.endswith(b"\r\n\r\n") and (byte := line.recv(1)):
         head += byte
@@ -80,12 +82,12 @@ def read_head(line: socket.socket) -> bytes:
 
 
 def link_to(url: str, word: str = "compensate") -> str:
-    """A link as short as one can be."""
+    """Returns a link that is as short as possible."""
     return f"<{url}>; rel=\"{word}\""
 
 
 def own_address() -> str | None:
-    """An address of this machine other than the loopback's, if it has one."""
+    """Returns an address of this machine other than the loopback address, if it has one."""
     with socket.socket(socket.AF_INET, socket.SOCK_DGRAM) as probe:
         try:
             probe.connect(("198.51.100.1", 9))
@@ -96,7 +98,8 @@ def own_address() -> str | None:
 
 
 def asked_at(address: tuple[str, int], method: str, target: str, *fields: str) -> int:
-    """The code of an answer to what a node might send; 0 where the connection is closed without one."""
+    """Sends a request that a node might send, and returns the status of the answer, or 0 if the connection is closed
+    without one."""
     lines = [f"{method} {target} HTTP/1.1", f"Host: {address[0]}:{address[1]}", *fields, "Content-Length: 0",
              "Connection: close", "", ""]
     try:
@@ -108,13 +111,13 @@ def asked_at(address: tuple[str, int], method: str, target: str, *fields: str) -
 
 
 def with_node(carried: str) -> tuple[tuple[str, int], str]:
-    """Where a node calls a carried link, and with which target."""
+    """Returns the address that a node calls for a carried link, and the request target."""
     parts = urllib.parse.urlsplit(carried)
     return (parts.hostname or "", parts.port or 80), urllib.parse.urlunsplit(("", "", *parts[2:4], ""))
 
 
 def seconds_of(call: Callable[..., object], *words: typing.Any) -> float:
-    """How long a call takes."""
+    """Returns how long a call takes."""
     began = time.monotonic()
     call(*words)
     return time.monotonic() - began
@@ -122,7 +125,7 @@ def seconds_of(call: Callable[..., object], *words: typing.Any) -> float:
 
 @contextlib.contextmanager
 def beside(call: Callable[[], object]) -> Iterator[None]:
-    """Makes a call meanwhile, and waits for its end."""
+    """Makes a call in the background, and waits for its end."""
     with concurrent.futures.ThreadPoolExecutor() as pool:
         future = pool.submit(call)
         yield
@@ -141,23 +144,23 @@ class TestGateway(checks.Checked):
         folder = cls.enterClassContext(tempfile.TemporaryDirectory())
         cls.nodes = cls.enterClassContext(Operated(3, folder, KEEP))
 
-    # ---- what stands
+    # ---- fixtures
 
     def members(self) -> Operated:
-        """The nodes, of which those are started that don't run."""
+        """Returns the nodes, and starts those that aren't running."""
         running = [number for number, process in self.nodes.processes.items() if process.poll() is None]
         away = [number for number in (1, 2, 3) if number not in running]
         return self.nodes.start(*away) if away else self.nodes
 
     def front(self, groups: Sequence[Sequence[str]], *options: str, base: str = "", via: str = "") -> Gateway:
-        """A gateway that is killed with the test, and isn't started yet."""
+        """Makes a gateway that isn't started yet. It is killed when the test ends."""
         made = Gateway(self.folder, groups, options, base, via)
         self.addCleanup(made.__exit__)
         return made
 
     def up(self, *options: str, via: str = "") -> Client:
-        """A gateway before the nodes, and its client. Without options it waits for the end of an LRA as long as that
-        may take."""
+        """Starts a gateway in front of the nodes, and returns its client. Without options it waits for the end of an
+        LRA as long as that may take."""
         self.gateway = self.front([doors_of(self.members())], *(options or PATIENT), via=via).start()
         self.client = Client(self.gateway.port)
         return self.client
@@ -173,7 +176,7 @@ class TestGateway(checks.Checked):
         return made
 
     def joined(self, *services: Annotated, parent: str = "") -> str:
-        """An LRA that services have joined, in this order."""
+        """Begins an LRA that these services join, in this order."""
         lra = self.client.start(parent)
         for service in services:
             self.client.join(lra, service.link())
@@ -187,11 +190,11 @@ class TestGateway(checks.Checked):
         self.same(what, code, code_of(call, *words))
 
     def record(self, lra: str) -> Json:
-        """What the home of an LRA tells operators of it."""
+        """Returns what the home of an LRA shows operators of it."""
         return self.nodes.record(home_of(lra_of(lra)), lra_of(lra))
 
     def carried(self, lra: str, word: str = "compensate") -> str:
-        """The link that a node was given for the first participant's."""
+        """Returns the link that the node has in place of the first participant's own link."""
         return self.record(lra)["members"][0]["links"][word]
 
     # ---- what a filter does
@@ -202,10 +205,10 @@ class TestGateway(checks.Checked):
 
         def book(context: Context) -> int:
             seen.append(context)
-            self.same("its status within the method", "Active", client.status(context.lra))
+            self.same("the LRA's status within the method", "Active", client.status(context.lra))
             return 200
 
-        self.same("the method's code", 200, invoke(client, "REQUIRED", trip, book))
+        self.same("the method's status", 200, invoke(client, "REQUIRED", trip, book))
         lra, recovery = seen[0]
         self.is_shown(lra, "Closed")
         self.same("the calls", [("PUT", "/trip/complete?method=jakarta.ws.rs.PUT")], trip.made(lra))
@@ -215,10 +218,10 @@ class TestGateway(checks.Checked):
         self.same("no parent", None, fields["Long-Running-Action-Parent"])
         self.same("a length and no body", ("0", b""), (fields["Content-Length"], trip.calls[0].body))
         self.same("the host", f"{HOST}:{trip.port}", fields["Host"])
-        self.check("it doesn't ask for the end of the connection", fields["Connection"] is None, fields["Connection"])
+        self.check("it doesn't ask to close the connection", fields["Connection"] is None, fields["Connection"])
 
     def test_answers(self) -> None:
-        """What each call is answered, with its fields."""
+        """Each call gets its answer, with its header fields."""
         client, trip = self.up(), self.service()
         begun = client.send("POST", "start?ClientID=a&TimeLimit=0&ParentLRA=", "")
         lra = begun.text
@@ -235,8 +238,8 @@ class TestGateway(checks.Checked):
         self.check("as text", status.fields.get("Content-Type", "").startswith("text/plain"), status.fields)
         ended = client.send("PUT", f"{uid_of(lra)}/close", "")
         self.same("a close", (200, "Closed"), (ended.status, ended.text))
-        self.same("once more", (200, "Closed"), self.ended(lra))
-        self.is_declined("and a cancel then", 412, client.end, lra, "cancel")
+        self.same("a second close", (200, "Closed"), self.ended(lra))
+        self.is_declined("a cancel after the close", 412, client.end, lra, "cancel")
         self.is_declined("a leave", 412, client.leave, lra, trip.link())
         with client.connect() as line:
             line.sendall(head_of("GET", f"/lra-coordinator/{uid_of(lra)}/status", "x"))
@@ -252,7 +255,8 @@ class TestGateway(checks.Checked):
         return answer.status, answer.text
 
     def test_chain(self) -> None:
-        """A method calls another service's within its LRA: both complete, or both compensate, the last first."""
+        """A method calls another service's method within its LRA: both complete, or both compensate, the last to join
+        first."""
         client, one, two = self.up(), self.service(), self.service()
         seen: list[str] = []
 
@@ -277,13 +281,13 @@ class TestGateway(checks.Checked):
         self.is_shown(seen[2], "Cancelled")
         first, last = one.of("compensate"), two.of("compensate")
         self.same("both compensate", (1, 1), (len(first), len(last)))
-        self.check("the last that joined first", last[0].at < first[0].at)
+        self.check("the last to join compensates first", last[0].at < first[0].at)
 
     def test_types(self) -> None:
-        """Methods with each type of LRA."""
+        """Methods work with each type of LRA."""
         client, one, two = self.up(), self.service(), self.service()
         seen: list[str] = []
-        self.same("MANDATORY without one", 412, invoke(client, "MANDATORY", one, lambda _: 200))
+        self.same("MANDATORY without an LRA", 412, invoke(client, "MANDATORY", one, lambda _: 200))
 
         def inner(context: Context) -> int:
             seen.append(context.lra)
@@ -295,17 +299,18 @@ class TestGateway(checks.Checked):
             return 500
 
         invoke(client, "REQUIRED", one, outer)
-        self.check("a new one", seen[0] != seen[1], seen)
+        self.check("a new LRA", seen[0] != seen[1], seen)
         self.is_shown(seen[0], "Cancelled")
-        self.is_shown(seen[1], "Closed", "the new one")
-        self.same("which isn't compensated", [], two.of("compensate"))
-        self.same("NEVER within one", 412, invoke(client, "NEVER", one, lambda _: 200, seen[0]))
-        self.same("SUPPORTS without one", 200, invoke(client, "SUPPORTS", one, lambda _: 200))
-        self.same("NESTED in none begins one", 200, invoke(client, "NESTED", two, inner))
+        self.is_shown(seen[1], "Closed", "the new LRA")
+        self.same("the new LRA isn't compensated", [], two.of("compensate"))
+        self.same("NEVER within an LRA", 412, invoke(client, "NEVER", one, lambda _: 200, seen[0]))
+        self.same("SUPPORTS without an LRA", 200, invoke(client, "SUPPORTS", one, lambda _: 200))
+        self.same("NESTED without an LRA begins one", 200, invoke(client, "NESTED", two, inner))
         self.is_shown(seen[2], "Closed")
 
     def test_nested(self) -> None:
-        """A nested LRA that closed is compensated with its parent, and told of its end only then."""
+        """A nested LRA that closed is compensated with its parent, and only then its listener is notified of the
+        end."""
         client, one = self.up(), self.service()
         two = self.service("compensate", "complete", "forget", "after")
         seen: list[str] = []
@@ -317,32 +322,34 @@ class TestGateway(checks.Checked):
         def outer(context: Context) -> int:
             seen.append(context.lra)
             invoke(client, "NESTED", two, inner, context.lra)
-            self.is_shown(seen[1], "Closed", "the nested one")
-            self.same("the parent is told", context.lra, two.of("complete")[0].fields["Long-Running-Action-Parent"])
-            self.same("a listener hears nothing yet", [], two.of("after"))
+            self.is_shown(seen[1], "Closed", "the nested LRA")
+            self.same("the call names the parent", context.lra,
+                      two.of("complete")[0].fields["Long-Running-Action-Parent"])
+            self.same("the listener isn't notified yet", [], two.of("after"))
             return 500
 
         invoke(client, "REQUIRED", one, outer)
         for lra in seen:
             self.is_shown(lra, "Cancelled")
         self.same("it is compensated by its own id", [seen[1]], [call.lra for call in two.of("compensate")])
-        self.check("the listener is told", two.is_called("after"))
+        self.check("the listener is notified", two.is_called("after"))
         ended = two.of("after")[0]
-        self.same("of what", (b"Cancelled", seen[1]), (ended.body, ended.fields["Long-Running-Action-Ended"]))
+        self.same("what it is notified of", (b"Cancelled", seen[1]),
+                  (ended.body, ended.fields["Long-Running-Action-Ended"]))
         parent = client.start()
         child = self.joined(two, parent=parent)
-        self.same("at its parent's home", home_of(uid_of(parent)), home_of(uid_of(child)))
+        self.same("a nested LRA is at its parent's home", home_of(uid_of(parent)), home_of(uid_of(child)))
         client.end(child)
-        self.is_shown(child, "Closed", "another nested one")
+        self.is_shown(child, "Closed", "another nested LRA")
         self.same("forget waits for the root", [], two.of("forget"))
         client.end(parent)
-        self.check("then it is called", two.is_called("forget"))
-        self.same("by its method", "DELETE", two.of("forget")[0].method)
+        self.check("forget is called after the root's end", two.is_called("forget"))
+        self.same("the method of forget", "DELETE", two.of("forget")[0].method)
 
     # ---- what participants answer
 
     def test_busy(self) -> None:
-        """Who says that it goes on is asked for its status, or called again."""
+        """A participant that is still busy is asked for its status, or called again."""
         client = self.up("wait=0")
         one, two = self.service("compensate", "complete", "status"), self.service("compensate", "complete", "status")
         three = self.service()
@@ -355,15 +362,15 @@ class TestGateway(checks.Checked):
         for lra, word in zip(lras, ("cancel", "close", "close"), strict=True):
             client.end(lra, word)
         self.is_shown(lras[0], "Cancelled", "202, and its status later")
-        self.same("it is called once", 1, len(one.of("compensate")))
-        self.same("and asked", ["GET"] * 2, [call.method for call in one.of("status")])
+        self.same("compensate is called once", 1, len(one.of("compensate")))
+        self.same("then the status is requested", ["GET"] * 2, [call.method for call in one.of("status")])
         self.is_shown(lras[1], "Closed", "200 and Completing")
-        self.same("asked until it says so", (1, 2), (len(two.of("complete")), len(two.of("status"))))
+        self.same("the status is requested until it is done", (1, 2), (len(two.of("complete")), len(two.of("status"))))
         self.is_shown(lras[2], "Closed", "202 without a status link")
-        self.same("called again", 2, len(three.of("complete")))
+        self.same("complete is called again", 2, len(three.of("complete")))
 
     def test_failed(self) -> None:
-        """Who says that it can't isn't called again, and the LRA shows it."""
+        """A participant that reports failure isn't called again, and the LRA shows the failure."""
         client = self.up()
         for reply in FAILED:
             trip = self.service("compensate", "forget")
@@ -372,17 +379,17 @@ class TestGateway(checks.Checked):
             client.end(lra, "cancel")
             self.is_shown(lra, "FailedToCancel", f"{reply}")
             self.check("forget is called", trip.is_called("forget"))
-            self.same("and compensate once", 1, len(trip.of("compensate")))
+            self.same("compensate is called once", 1, len(trip.of("compensate")))
         trip = self.service()
         trip.say("complete", (200, b"FailedToComplete"))
         lra = self.joined(trip)
         client.end(lra)
         self.is_shown(lra, "FailedToClose", "a complete that fails")
-        self.check("what was told otherwise is in the log", f"{trip.base()}/complete" in self.gateway.log(),
+        self.check("the failed call is in the log", f"{trip.base()}/complete" in self.gateway.log(),
                    self.gateway.log())
 
     def test_odd(self) -> None:
-        """Answers that aren't one of done: it is called again after each."""
+        """After an answer that doesn't count as done, the participant is called again."""
         client = self.up("wait=0")
         services = []
         for reply in ODD:
@@ -396,7 +403,7 @@ class TestGateway(checks.Checked):
             self.same("two calls", 2, len(trip.of("compensate")))
 
     def test_cut(self) -> None:
-        """An answer that is cut, or whose end can't be told, isn't one of done."""
+        """An answer that is cut off, or whose end is unknown, doesn't count as done."""
         client, head = self.up("wait=0"), b"HTTP/1.1 200 OK\r\n"
         cut = (head + b"\r\nCompe", head + b"\r\n", head + b"Transfer-Encoding: chunked\r\n\r\n5\r\nCompe\r\n",
                head + b"Transfer-Encoding: chunked\r\n\r\n", head + b"Content-Length: 9\r\n\r\nabc",
@@ -414,8 +421,8 @@ class TestGateway(checks.Checked):
             self.same("two calls", 2, rough.count)
 
     def test_chunks(self) -> None:
-        """A participant that answers in chunks counts: by each act, with a body and without one, behind an interim
-        answer, in pieces that come late."""
+        """An answer in chunks counts: with and without a body, behind an interim answer, and with extensions and
+        trailers."""
         client, head = self.up(), b"HTTP/1.1 200 OK\r\nTransfer-Encoding: chunked\r\n\r\n"
         answers = (head + b"0\r\n\r\n", head + chunks_of(b"all is well"),
                    b"HTTP/1.1 100 Continue\r\n\r\n" + head + b"0\r\n\r\n",
@@ -428,16 +435,17 @@ class TestGateway(checks.Checked):
             self.same("one call", 1, rough.count)
 
     def test_gone(self) -> None:
-        """A participant that is away is called again until it is there; and those at a name, and at an address of
-        IPv6."""
+        """A participant that is down is called again until it is back. Participants at a host name and at an IPv6
+        address are called."""
         client, trip = self.up("wait=0"), self.service()
         lra = self.joined(trip)
         trip.close()
         client.end(lra)
         home = home_of(uid_of(lra))
-        self.check("nobody is reached", comes_to(SLOW, lambda: "502" in [c["came"] for c in self.nodes.calls(home)]),
+        self.check("the call fails with 502",
+                   comes_to(SLOW, lambda: "502" in [c["came"] for c in self.nodes.calls(home)]),
                    self.nodes.calls(home))
-        self.same("it waits", "Closing", client.status(lra))
+        self.same("the LRA waits", "Closing", client.status(lra))
         trip.open()
         self.is_shown(lra, "Closed", "with the participant back")
         done = b"HTTP/1.1 204 No Content\r\n\r\n"
@@ -453,70 +461,71 @@ class TestGateway(checks.Checked):
             self.same("one call", 1, rough.count)
 
     def test_after(self) -> None:
-        """A listener is told of the end, again after an error, and isn't a participant."""
+        """A listener is notified of the end, again after an error, and isn't a participant."""
         client, one, two = self.up(), self.service("after"), self.service()
         one.say("after", 500, 200)
         lra = self.joined(one, two)
         client.end(lra)
-        self.check("it is told again", one.is_called("after", 2))
+        self.check("it is notified again", one.is_called("after", 2))
         call = one.of("after")[1]
-        self.same("what", (b"Closed", lra), (call.body, call.fields["Long-Running-Action-Ended"]))
+        self.same("what it is notified of", (b"Closed", lra), (call.body, call.fields["Long-Running-Action-Ended"]))
         self.same("as text", "text/plain", call.fields["Content-Type"])
-        self.same("and no LRA to be in", None, call.fields["Long-Running-Action"])
+        self.same("the call has no LRA as its context", None, call.fields["Long-Running-Action"])
 
     # ---- what services ask
 
     def test_leave(self) -> None:
-        """Who left isn't called."""
+        """A participant that left isn't called."""
         client, one, two = self.up(), self.service("compensate", "complete", "leave"), self.service()
         lra = self.joined(one, two)
         client.leave(lra, one.link())
         client.end(lra)
         self.is_shown(lra, "Closed")
-        self.same("who left isn't called", [], one.calls)
-        self.same("who stayed is", 1, len(two.of("complete")))
+        self.same("the participant that left isn't called", [], one.calls)
+        self.same("the one that stayed is called", 1, len(two.of("complete")))
         self.is_declined("a late leave", 412, client.leave, lra, two.link())
         other = client.start()
-        self.is_declined("a leave of nobody", 400, client.leave, other, two.link())
+        self.is_declined("a leave of a service that never joined", 400, client.leave, other, two.link())
 
     def test_limit(self) -> None:
-        """The time limit of a start, and the one that the gateway gives where none is asked for."""
+        """The time limit of a start works, and so does the gateway's own limit if none is requested."""
         client, trip = self.up("limit=600000"), self.service()
         lra = client.start(limit=2000)
         client.join(lra, trip.link())
-        self.is_shown(lra, "Cancelled", "behind its limit")
+        self.is_shown(lra, "Cancelled", "after its limit")
         self.same("it is compensated", 1, len(trip.of("compensate")))
-        self.is_declined("a close that is too late", 412, client.end, lra)
+        self.is_declined("a close after the limit", 412, client.end, lra)
         deadline = self.record(client.start())["deadline"]
         self.check("a limit by default", deadline and abs(deadline / 1000 - time.time() - 600) < 60, deadline)
         for limit in ("x", "-1", "1.5", "9" * 30):
             answer = client.send("POST", f"start?ClientID=a&TimeLimit={limit}", "")
-            self.same(f"no limit: {limit}", 400, answer.status)
+            self.same(f"an invalid limit: {limit}", 400, answer.status)
 
     def test_again(self) -> None:
-        """A join with the same compensate link is the first one; and what is too late, or of no LRA."""
+        """A join with the same compensate link counts as the first one. Calls that are too late or name no LRA are
+        declined."""
         client, one, two = self.up(), self.service(), self.service()
         lra = client.start()
         first = client.join(lra, one.link())
         self.same("a second join", first, client.join(lra, one.link()))
-        self.same("and a thirty-fourth", {first}, {client.join(lra, one.link()) for _ in range(32)})
-        self.check("another's is another", client.join(lra, two.link()) != first)
+        self.same("the same join 32 times more", {first}, {client.join(lra, one.link()) for _ in range(32)})
+        self.check("another service's join is another", client.join(lra, two.link()) != first)
         client.end(lra, "cancel")
         self.is_shown(lra, "Cancelled")
         self.same("one call each", (1, 1), (len(one.of("compensate")), len(two.of("compensate"))))
-        self.same("a second cancel is as good", (200, "Cancelled"), self.ended(lra, "cancel"))
-        self.is_declined("a close then", 412, client.end, lra)
+        self.same("a second cancel succeeds too", (200, "Cancelled"), self.ended(lra, "cancel"))
+        self.is_declined("a close after the cancel", 412, client.end, lra)
         self.is_declined("the same join, too late", 412, client.join, lra, one.link())
-        self.is_declined("a new one, too late", 412, client.join, lra, self.service().link())
-        self.is_declined("the status of none", 404, client.status, NONE)
-        self.is_declined("the end of none", 404, client.end, NONE)
-        self.is_declined("a join of none", 404, client.join, NONE, one.link())
-        self.is_declined("a node that isn't there", 404, client.status, NONE.replace("8001", "8008"))
+        self.is_declined("a new join, too late", 412, client.join, lra, self.service().link())
+        self.is_declined("the status of no LRA", 404, client.status, NONE)
+        self.is_declined("a close of no LRA", 404, client.end, NONE)
+        self.is_declined("a join of no LRA", 404, client.join, NONE, one.link())
+        self.is_declined("an LRA of a node that doesn't exist", 404, client.status, NONE.replace("8001", "8008"))
         self.is_declined("another coordinator's parent", 404, client.start, OTHERS)
-        self.is_declined("a parent that isn't there", 404, client.start, f"{client.root()}/{NONE}")
+        self.is_declined("a parent that doesn't exist", 404, client.start, f"{client.root()}/{NONE}")
 
     def test_ids(self) -> None:
-        """An id stands in a path as a client may write it."""
+        """An id is accepted in a path in each way that a client may write it."""
         client = self.up()
         lra = client.start()
         uid = uid_of(lra)
@@ -524,23 +533,24 @@ class TestGateway(checks.Checked):
             path, _, query = text.partition("?")
             answer = client.send("GET", f"{path}/status" + (query and f"?{query}"))
             self.same(text, (200, "Active"), (answer.status, answer.text))
-        self.same("a nested one, by an id that was escaped before", 201,
+        self.same("a nested LRA, by an id that is escaped twice", 201,
                   client.send("POST", f"start?ClientID=a&ParentLRA={quoted(quoted(lra))}", "").status)
-        self.same("a close by the id itself", 200,
+        self.same("a close by the id's own path", 200,
                   client.send("PUT", f"{urllib.parse.urlsplit(lra).path}/close", "").status)
 
     def test_links(self) -> None:
-        """Link texts that can be carried, and those that can't."""
+        """Some link texts can be carried, and others are refused."""
         client, trip = self.up(), self.service()
         lra = client.start()
         bad = ("<https://h/c>; rel=\"compensate\"", "<http://u@h/c>; rel=compensate", "nothing", "", "<>; rel=after",
                "<http://h/c#f>; rel=compensate", "<http://h/k>; rel=\"complete\"", "<h/c>; rel=compensate",
                "<http://h/c?a\\b>; rel=compensate", "<http://h/c>; rel=\"leave\"")
         for link in bad:
-            self.is_declined(f"no link: {link}", 400, client.join, lra, link)
+            self.is_declined(f"an invalid link: {link}", 400, client.join, lra, link)
         base = trip.base()
         good = (f"<{base}/compensate>;rel=compensate,<{base}/complete>;rel=complete", base)
-        self.same("bare ones, and a plain URL", 1, len({client.join(lra, link) for link in good}))
+        self.same("links without quotes, and a plain URL, are the same join", 1,
+                  len({client.join(lra, link) for link in good}))
         client.end(lra)
         self.is_shown(lra, "Closed")
         self.same("it completes", 1, len(trip.of("complete")))
@@ -548,44 +558,46 @@ class TestGateway(checks.Checked):
         old = f"<{base}/x/compensate?method=javax.ws.rs.PUT>; rel=\"compensate\"; title=\"a, b\"; type=\"text/plain\""
         client.join(other, old)
         client.end(other, "cancel")
-        self.same("a query of old", "/trip/x/compensate?method=javax.ws.rs.PUT", trip.of("compensate")[0].path)
+        self.same("a query as older clients write it", "/trip/x/compensate?method=javax.ws.rs.PUT",
+                  trip.of("compensate")[0].path)
 
     def lengthened(self, host: str, count: int) -> str:
         return f"<http://{host}/{'x' * count}?method=jakarta.ws.rs.PUT>; rel=\"compensate\""
 
     def over(self, answer: Answer) -> int:
-        """By how many bytes a link is too long, as the answer says."""
+        """Returns by how many bytes a link is too long, as the answer says, or -1."""
         said = re.findall(r"\b(\d+) bytes?\b", answer.text)
         return int(said[0]) if answer.status == 400 and said else -1
 
     def test_long(self) -> None:
-        """A link that is too long is refused with how many bytes it has too many; cut by as many it fits."""
+        """A link that is too long is refused, with the number of excess bytes; shortened by that many it fits."""
         client, trip = self.up(), self.service()
         lra, host = client.start(), f"{HOST}:{trip.port}"
         answer = client.send("PUT", uid_of(lra), self.lengthened(host, 140))
         over = self.over(answer)
-        self.check("it says by how much", 0 < over < 140, (answer.status, answer.text))
-        self.check("of which link", f"http://{host}/xxx" in answer.text, answer.text)
+        self.check("the answer says by how much", 0 < over < 140, (answer.status, answer.text))
+        self.check("the answer names the link", f"http://{host}/xxx" in answer.text, answer.text)
         rest = self.over(client.send("PUT", uid_of(lra), self.lengthened(host, 140 - over + 1)))
-        self.same("cut by one less it has one too many", 1, rest)
+        self.same("shortened by one byte less, it is one too long", 1, rest)
         client.join(lra, self.lengthened(host, 140 - over))
         room = len(host) + 1 + 140 - over
-        self.check(f"cut by as many it fits: HOST:PORT/PATH has {room} bytes", room >= 83, room)
+        self.check(f"shortened by that many it fits: HOST:PORT/PATH has {room} bytes", room >= 83, room)
         client.end(lra, "cancel")
-        self.same("it is called", [f"/{'x' * (140 - over)}?method=jakarta.ws.rs.PUT"], trip.paths())
+        self.same("the participant is called", [f"/{'x' * (140 - over)}?method=jakarta.ws.rs.PUT"], trip.paths())
 
     def test_short(self) -> None:
-        """A front that the configuration names makes room."""
+        """A name that the configuration gives to a link's front makes room."""
         trip = self.service(root="/lra-participant/com.example.booking.reservations.BookingResource.of.the.travels")
         named = trip.base().removeprefix("http://")
         client = self.up(f"short=t={named}", f"short=u={HOST}:1/other")
         lra = client.start()
         client.join(lra, trip.link())
         target = with_node(self.carried(lra))[1]
-        self.check("it is carried by its name", target.endswith("/~t/compensate"), target)
+        self.check("the link is carried with the name", target.endswith("/~t/compensate"), target)
         client.end(lra, "cancel")
         self.is_shown(lra, "Cancelled")
-        self.same("it is called as it joined", [("PUT", f"{trip.root}/compensate?method=jakarta.ws.rs.PUT")],
+        self.same("the participant is called at its own link",
+                  [("PUT", f"{trip.root}/compensate?method=jakarta.ws.rs.PUT")],
                   trip.made(lra))
         plain = self.front([doors_of(self.nodes)]).start()
         other = Client(plain.port)
@@ -593,66 +605,68 @@ class TestGateway(checks.Checked):
         self.check("without the name it is too long", self.over(answer) > 0, (answer.status, answer.text))
 
     def test_questions(self) -> None:
-        """What an LRA shows, lists, where participants are recovered, and purges."""
+        """An LRA's data, lists, participants' links, and a purge are answered as Narayana's coordinator answers
+        them."""
         client, trip = self.up(), self.service()
         lra = client.start()
         info = client.send("GET", uid_of(lra), None, "Accept: application/json")
         self.same("its data", (200, lra, "Active", False), data_of(info))
-        self.check("it is listed", comes_to(SLOW, lambda: self.lists("?Status=Active", lra)))
-        self.check("also by the other path", self.lists("/?Status=Active", lra) and self.lists("", lra))
-        self.check("and not as closed", not self.lists("?Status=Closed", lra))
+        self.check("it is listed as active", comes_to(SLOW, lambda: self.lists("?Status=Active", lra)))
+        self.check("also at the other path", self.lists("/?Status=Active", lra) and self.lists("", lra))
+        self.check("but not as closed", not self.lists("?Status=Closed", lra))
         self.same("a wrong status", 400, client.send("GET", "/lra-coordinator?Status=Wrong").status)
         recovery = client.join(lra, trip.link())
         path = urllib.parse.urlsplit(recovery).path
         told = client.send("GET", path)
         url = f"<{trip.base()}/compensate?method=jakarta.ws.rs.PUT>"
         self.check("a participant's own links", told.status == 200 and url in told.text, told)
-        self.same("one that isn't there", 404, client.send("GET", path.removesuffix("1") + "9").status)
-        self.same("it can't be moved", 501, client.send("PUT", path, trip.link()).status)
+        self.same("a participant that doesn't exist", 404, client.send("GET", path.removesuffix("1") + "9").status)
+        self.same("its links can't be changed", 501, client.send("PUT", path, trip.link()).status)
         trip.say("compensate", 500)
         client.end(lra, "cancel")
         self.check("it is recovering", comes_to(SLOW, lambda: self.lists("/recovery", lra)))
-        self.same("which isn't purged", 412, client.send("DELETE", f"recovery/{uid_of(lra)}").status)
+        self.same("a recovering LRA isn't purged", 412, client.send("DELETE", f"recovery/{uid_of(lra)}").status)
         trip.say("compensate", 409)
         self.is_shown(lra, "FailedToCancel")
-        self.check("it failed", comes_to(SLOW, lambda: self.lists("/recovery/failed", lra)))
-        self.same("its data then", (200, lra, "FailedToCancel", True), data_of(client.send("GET", uid_of(lra))))
+        self.check("it is listed as failed", comes_to(SLOW, lambda: self.lists("/recovery/failed", lra)))
+        self.same("its data after the failure", (200, lra, "FailedToCancel", True),
+                  data_of(client.send("GET", uid_of(lra))))
         self.same("a purge", 204, client.send("DELETE", f"recovery/{uid_of(lra)}").status)
-        self.is_declined("then it is gone", 404, client.status, lra)
+        self.is_declined("after the purge it is gone", 404, client.status, lra)
 
     def lists(self, query: str, lra: str) -> bool:
-        """Whether a list has an LRA."""
+        """Whether a list contains an LRA."""
         answer = self.client.send("GET", f"/lra-coordinator{query}", None, "Accept: application/json")
         return lra in [row["lraId"] for row in answer.json()]
 
     def test_paths(self) -> None:
-        """What is no path, and no method of one."""
+        """Unknown paths and methods are refused."""
         client = self.up()
         uid = uid_of(client.start())
         for path in ("/", "/lra", "/lra-coordinators/start", f"/{uid}/status", f"/lra-coordinator/{uid}/x",
                      f"/lra-coordinator/{uid}/close/x", "/lra-coordinator/x/status",
                      f"/lra-coordinator/nested/{uid}/status"):
-            self.same(f"no path: {path}", 404, client.send("GET", path).status)
+            self.same(f"unknown path: {path}", 404, client.send("GET", path).status)
         for method, path in (("PATCH", uid), ("DELETE", uid), ("POST", f"{uid}/close"), ("GET", f"{uid}/close"),
                              ("PUT", f"{uid}/status"), ("GET", f"{uid}/remove"), ("PUT", "/lra-coordinator"),
                              ("POST", "recovery")):
             body = "" if method in ("PUT", "POST", "PATCH") else None
-            self.same(f"no method: {method} {path}", 405, client.send(method, path, body).status)
-        self.same("a limit isn't renewed", 501, client.send("PUT", f"{uid}/renew?TimeLimit=5", "").status)
-        self.same("a request that is none", b"HTTP/1.1 400", self.said(b"nonsense\r\n\r\n")[:12])
-        self.same("one that is too long", b"HTTP/1.1 4", self.said(b"GET / HTTP/1.1\r\nA: " + b"a" * 20_000)[:10])
+            self.same(f"method not allowed: {method} {path}", 405, client.send(method, path, body).status)
+        self.same("renewing a limit isn't implemented", 501, client.send("PUT", f"{uid}/renew?TimeLimit=5", "").status)
+        self.same("a malformed request", b"HTTP/1.1 400", self.said(b"nonsense\r\n\r\n")[:12])
+        self.same("a request that is too long", b"HTTP/1.1 4", self.said(b"GET / HTTP/1.1\r\nA: " + b"a" * 20_000)[:10])
 
     def said(self, text: bytes) -> bytes:
-        """What comes back of these bytes, until the gateway closes."""
+        """Sends these bytes, and returns what comes back first."""
         with self.client.connect() as line, contextlib.suppress(ConnectionError):
             line.sendall(text)
             return line.recv(4096)
         return b""
 
-    # ---- how requests come
+    # ---- how requests arrive
 
     def test_framing(self) -> None:
-        """A body that comes in chunks, in pieces, or behind an interim answer."""
+        """A body may come in chunks, in pieces, or behind an interim answer."""
         client, trip = self.up(), self.service()
         lra = client.start()
         path, host = f"/lra-coordinator/{uid_of(lra)}?TimeLimit=0", f"{HOST}:{client.port}"
@@ -664,7 +678,7 @@ class TestGateway(checks.Checked):
                     time.sleep(0.1)
                 answer = answer_over(line, "PUT")
             self.same("a join in chunks", 200, answer.status)
-        self.same("which are one", 1, len(self.record(lra)["members"]))
+        self.same("they count as one join", 1, len(self.record(lra)["members"]))
         text = head_of("PUT", f"/lra-coordinator/{uid_of(lra)}/status", host)
         with client.connect() as line:
             for byte in text.replace(b"PUT", b"GET"):
@@ -682,14 +696,15 @@ class TestGateway(checks.Checked):
             line.settimeout(SLOW)
             line.sendall(body)
             answer = answer_over(line, "PUT")
-        self.check(f"who waits for 100 Continue hears {interim}", interim in ("HTTP/1.1 100", "nothing"), answer)
-        self.same("and joins", 200, answer.status)
+        self.check(f"a client that waits for 100 Continue receives {interim}", interim in ("HTTP/1.1 100", "nothing"),
+                   answer)
+        self.same("and it joins", 200, answer.status)
         client.end(lra)
         self.same("both are called", (1, 1), (len(trip.of("complete")), len(other.of("complete"))))
 
     def test_upgrade(self) -> None:
-        """A client as Camel's saga: it would rather speak HTTP/2, reads Location, asks by the id as it stands, and
-        writes bare links."""
+        """A client like Camel's saga works: it would prefer HTTP/2, reads Location, uses the id as it stands, and
+        writes links without quotes."""
         client, trip = self.up(), self.service(root="")
         begun = client.send("POST", "start", "", *UPGRADE)
         self.same("a start", 201, begun.status)
@@ -702,18 +717,18 @@ class TestGateway(checks.Checked):
             line.sendall(head + chunks_of(link.encode()))
             self.same("a join", 200, answer_over(line, "PUT").status)
         self.same("a cancel", (200, "Cancelled"), self.ended(lra, "cancel"))
-        self.same("its call", [f"/compensate?{query}"], trip.paths())
+        self.same("its participant's call", [f"/compensate?{query}"], trip.paths())
 
     def test_silent(self) -> None:
-        """Clients that say nothing, or half of what they have to say, hold up nobody."""
+        """Clients that send nothing, or only half of a request, delay no others."""
         client, trip = self.up(), self.service()
         host = f"{HOST}:{client.port}"
         half = head_of("PUT", f"/lra-coordinator/{NONE}?TimeLimit=0", host, (), 100)
-        # (on a machine that has much else to do both take their time without them too)
+        # (on a machine that is busy both are slow even without such clients)
         starts = [seconds_of(client.start) for _ in range(3)]
         closes = [seconds_of(client.end, self.joined(trip)) for _ in range(3)]
         to_start, to_close = (max(2, 4 * statistics.median(times)) for times in (starts, closes))
-        for what, texts in (("silent", (b"",)), ("in the midst of a head", (half[:60],)),
+        for what, texts in (("silent", (b"",)), ("in the middle of a head", (half[:60],)),
                             ("behind a head", (half + b"x",)), ("of both", (b"", half[:60]))):
             lines = [client.connect() for _ in range(64) for _ in texts]
             for line, text in zip(lines, itertools.cycle(texts), strict=False):
@@ -730,13 +745,14 @@ class TestGateway(checks.Checked):
     # ---- who may call whom
 
     def test_forged(self) -> None:
-        """A call of a node is forwarded only for the LRA, the act and the link that were sealed."""
+        """A node's call is forwarded only for the LRA, the act and the link that were sealed."""
         client, trip = self.up(), self.service()
         lra, other = self.joined(trip), client.start()
-        self.same("a link of its own host", trip.url, self.own_links(lra))
+        self.same("the participant's own host is shown", trip.url, self.own_links(lra))
         address, target = with_node(self.carried(lra))
         complete = with_node(self.carried(lra, "complete"))[1]
-        self.check("its host is an address of the loopback", re.match(r"127\.\d+\.\d+\.\d+$", address[0]), address)
+        self.check("the carried link's host is a loopback address", re.match(r"127\.\d+\.\d+\.\d+$", address[0]),
+                   address)
         seal = target.split("/")[1]
         forged = [target + "x", target.replace("/trip/", "/trap/"), target.replace(seal, seal[:1] + "AAAAAAAA"),
                   target.replace(seal, complete.split("/")[1][:1] + seal[1:]), target.replace(seal, seal.lower()),
@@ -752,19 +768,20 @@ class TestGateway(checks.Checked):
             self.same(f"replayed by {method}", 403, asked_at(address, method, target, field))
         self.same("nobody was called", [], trip.calls)
         self.same("the link itself", 200, asked_at(address, "PUT", target, field))
-        self.same("reaches it", 1, len(trip.of("compensate")))
+        self.same("the link itself reaches the participant", 1, len(trip.of("compensate")))
         here = own_address()
         if here:
-            self.check("from elsewhere it doesn't", asked_at((here, address[1]), "PUT", target, field) in (0, 403))
-            self.same("nobody else was called", 1, len(trip.calls))
+            self.check("from another address it doesn't",
+                       asked_at((here, address[1]), "PUT", target, field) in (0, 403))
+            self.same("no further call was made", 1, len(trip.calls))
 
     def own_links(self, lra: str) -> str:
-        """The host of the participant that a recovery URL tells."""
+        """Returns the host of the participant that a recovery URL shows."""
         told = self.client.send("GET", f"recovery/{uid_of(lra)}/1").text
         return told[1:].partition("/trip")[0]
 
     def test_allowed(self) -> None:
-        """Participants may be at the hosts that are named, and at no others."""
+        """Participants may be at the configured hosts, and at no others."""
         trip, other = self.service(), self.service()
         client = self.up(f"allow=lra.example,{HOST}:{trip.port}")
         lra = self.joined(trip)
@@ -776,11 +793,11 @@ class TestGateway(checks.Checked):
         self.is_shown(lra, "Closed")
 
     def test_via(self) -> None:
-        """Nodes that reach the gateway by a name."""
+        """Nodes may reach the gateway by a host name."""
         client, trip = self.up(via="localhost"), self.service()
         lra = self.joined(trip)
         address, target = with_node(self.carried(lra))
-        self.same("it is in the links", ("localhost", self.gateway.calls), address)
+        self.same("the name is in the carried links", ("localhost", self.gateway.calls), address)
         self.same("a close", (200, "Closed"), self.ended(lra))
         field = f"Long-Running-Action: urn:uuid:{uid_of(client.start())}"
         self.same("forged", 403, asked_at(address, "PUT", target, field))
@@ -788,12 +805,12 @@ class TestGateway(checks.Checked):
     # ---- times
 
     def test_waits(self) -> None:
-        """A close or cancel waits for the end for as long as it is told, a second by default."""
+        """A close or cancel waits for the end as long as configured, or a second by default."""
         client, trip = self.up("again=8000"), self.service()
         for word, status in (("close", "Closed"), ("cancel", "Cancelled")):
-            # (five tries, since a slow machine takes longer than a second now and then)
+            # (five tries, since a slow machine may need longer than a second)
             is_so = any(self.ended(self.joined(trip), word) == (200, status) for _ in range(5))
-            self.check(f"a {word} is answered at the end", is_so)
+            self.check(f"a {word} is answered once the LRA has ended", is_so)
         trip.say("complete", 500)
         lra = self.joined(trip)
         began = time.monotonic()
@@ -806,11 +823,11 @@ class TestGateway(checks.Checked):
         trip.pause = 4
         lra = self.joined(trip)
         took = seconds_of(Client(brief.port).end, lra)
-        self.check(f"with wait=0 it is after {took:.2f} s", took < 3)
+        self.check(f"with wait=0 it is answered after {took:.2f} s", took < 3)
         self.is_shown(lra, "Closed")
 
     def test_hung(self) -> None:
-        """Participants that take longer than a node waits hold up no others, and are called again."""
+        """Participants that take longer than a node waits delay no others, and are called again."""
         client, slow = self.up("wait=0"), [self.service(pause=10.5) for _ in range(3)]
         good, held = self.service(), [self.joined(trip) for trip in slow]
         alone = self.closes_in(good)
@@ -823,14 +840,14 @@ class TestGateway(checks.Checked):
         took, until = [], time.monotonic() + 3
         while time.monotonic() < until and len(took) < 9:
             took.append(self.closes_in(good))
-        what = f"beside them {len(took)} LRAs of another close within {max(took):.1f} s, without them in {alone:.1f}"
+        what = f"beside them {len(took)} LRAs of another service close within {max(took):.1f} s, alone in {alone:.1f}"
         self.check(what, max(took) < max(3, 4 * alone))
         for lra in held:
             self.is_shown(lra, "Closed")
         self.same("each was called once more", [2] * 3, [len(trip.of("complete")) for trip in slow])
 
     def closes_in(self, trip: Annotated) -> float:
-        """How long an LRA takes to close that a service has joined."""
+        """Returns how long an LRA takes to close that a service has joined."""
         lra = self.joined(trip)
         began = time.monotonic()
         self.client.end(lra)
@@ -838,11 +855,11 @@ class TestGateway(checks.Checked):
         return time.monotonic() - began
 
     def test_crowd(self) -> None:
-        """Twenty-four LRAs by eight threads."""
+        """Eight threads begin and end twenty-four LRAs."""
         client, trip = self.up(), self.service()
 
         def one(code: int) -> str:
-            # (a node that has much else to do may give a start no answer in time, which isn't made again then)
+            # (a start may get no answer in time from a busy node, and is then repeated)
             lra = insist(client.start)
             client.join(lra, trip.link())
             client.end(lra, "cancel" if code == 500 else "close")
@@ -855,13 +872,13 @@ class TestGateway(checks.Checked):
         took = time.monotonic() - began
         statuses = ["Cancelled" if code == 500 else "Closed" for code in codes]
         ends = [client.comes_to(lra, status) for lra, status in zip(lras, statuses, strict=True)]
-        self.check(f"all end as they are to, in {took:.1f} s", all(ends), ends)
+        self.check(f"all end as expected, in {took:.1f} s", all(ends), ends)
         self.same("each has its own id", 24, len(set(lras)))
         self.same("one call each", (16, 8), (len(trip.of("complete")), len(trip.of("compensate"))))
-        self.same("of all homes", {1, 2, 3}, {home_of(uid_of(lra)) for lra in lras})
+        self.same("LRAs of all homes", {1, 2, 3}, {home_of(uid_of(lra)) for lra in lras})
 
     def test_cost(self) -> None:
-        """What the gateway adds to a call, and how long each takes."""
+        """The gateway adds little to a call, and no call takes long."""
         client, trip = self.up(), self.service()
         lra = client.start()
         home, uid = home_of(uid_of(lra)), uid_of(lra)
@@ -883,12 +900,12 @@ class TestGateway(checks.Checked):
     # ---- kills
 
     def test_kills(self) -> None:
-        """The gateway is killed between all calls, and while a participant answers."""
+        """The gateway is killed between calls, and while a participant answers."""
         client, trip, other = self.up("wait=0"), self.service(*FULL), self.service(*FULL)
         lra = client.start()
         recovery = client.join(lra, trip.link())
         self.gateway.again()
-        self.same("the join before is known", recovery, client.join(lra, trip.link()))
+        self.same("the join before the kill is known", recovery, client.join(lra, trip.link()))
         client.join(lra, other.link())
         self.gateway.again()
         client.leave(lra, other.link())
@@ -901,11 +918,11 @@ class TestGateway(checks.Checked):
         self.gateway.start()
         self.is_shown(lra, "Closed")
         self.check("its complete was called twice at most", len(trip.of("complete")) in (1, 2), trip.paths())
-        self.check("it hears of the end", trip.is_called("after"))
-        self.same("who left isn't called", [], other.calls)
+        self.check("it is notified of the end", trip.is_called("after"))
+        self.same("the participant that left isn't called", [], other.calls)
 
     def test_home(self) -> None:
-        """A node is killed: questions and begins go to others, a close waits for it to be back."""
+        """After a node is killed, reads and begins go to others, and a close waits until the node is back."""
         client, trip = self.up("again=80000"), self.service()
         lra = self.joined(trip)
         home = home_of(uid_of(lra))
@@ -932,10 +949,10 @@ class TestGateway(checks.Checked):
         self.nodes.kill(home_of(uid_of(lra)))
         trip.pause = 0
         self.nodes.start(home_of(uid_of(lra)))
-        self.is_shown(lra, "Closed", "its home was killed in the midst of a call")
+        self.is_shown(lra, "Closed", "its home was killed in the middle of a call")
 
     def test_storm(self) -> None:
-        """Gateway and nodes are killed again and again under load: no LRA is lost."""
+        """The gateway and nodes are killed again and again under load, and no LRA is lost."""
         client, trip, over = self.up("wait=1000"), self.service(), threading.Event()
         trip.pause = 0.1
         kills = [0, 0]
@@ -968,20 +985,20 @@ class TestGateway(checks.Checked):
         self.check(f"{len(lras)} LRAs were closed beside {kills[0]} kills of the gateway and {kills[1]} of nodes",
                    len(lras) >= 4 and min(kills) > 0)
         lost = [lra for lra in lras if not client.comes_to(lra, "Closed")]
-        self.check("each comes to Closed", not lost, lost)
+        self.check("each becomes Closed", not lost, lost)
         done = {call.lra for call in trip.of("complete")}
-        self.check("each was told to complete", done >= set(lras), set(lras) - done)
+        self.check("each participant was called to complete", done >= set(lras), set(lras) - done)
         wrong = {call.lra for call in trip.of("compensate")} & set(lras)
-        self.check("none to compensate", not wrong, wrong)
+        self.check("none was called to compensate", not wrong, wrong)
 
     def test_ends(self) -> None:
-        """It ends with its input, whatever it is at: no call is lost by that either."""
+        """The gateway ends when its input does, whatever it is doing, and no call is lost by that."""
         client, slow = self.up(), self.service(pause=6)
         lra, lines = self.joined(slow), [client.connect() for _ in range(8)]
         with beside(lambda: no_answer(client.end, lra)):
             self.check("a participant is called", slow.is_called("complete"))
             took = seconds_of(self.gateway.end)
-            self.same("its status", 0, self.gateway.end())
+            self.same("its exit status", 0, self.gateway.end())
             self.check(f"it ends after {took:.1f} s", took < 5, took)
         slow.pause = 0
         for line in lines:
@@ -992,7 +1009,7 @@ class TestGateway(checks.Checked):
     # ---- several groups, several gateways
 
     def test_groups(self) -> None:
-        """Two groups behind one gateway."""
+        """Two groups work behind one gateway."""
         others = Operated(2, self.folder, KEEP)
         self.addCleanup(others.__exit__)
         others.start()
@@ -1004,7 +1021,7 @@ class TestGateway(checks.Checked):
         self.check("LRAs of both are begun", first and second and len(first) + len(second) == 12, lras)
         self.same("at all nodes of both", ({1, 2, 3}, {1, 2}),
                   tuple({home_of(lra_of(lra)) for lra in some} for some in (first, second)))
-        self.check("each is listed by its own id", comes_to(SLOW, lambda: all(self.lists("", lra) for lra in lras)))
+        self.check("each is listed under its own id", comes_to(SLOW, lambda: all(self.lists("", lra) for lra in lras)))
         for lra, word, status in ((first[0], "close", "Closed"), (second[0], "close", "Closed"),
                                   (first[1], "cancel", "Cancelled"), (second[1], "cancel", "Cancelled")):
             recovery = client.join(lra, trip.link())
@@ -1012,30 +1029,31 @@ class TestGateway(checks.Checked):
             self.same("a second join", recovery, client.join(lra, trip.link()))
             self.same(f"{lra[-4:]}: a {word}", (200, status), self.ended(lra, word))
             calls = [call for call in trip.calls if call.lra == lra]
-            self.same("it is told its id", 1, len([call for call in calls if not call.is_end]))
-            self.check("and its end", comes_to(SLOW, lambda lra=lra: [call for call in trip.ends() if call.lra == lra]))
+            self.same("its participant is called with its id", 1, len([call for call in calls if not call.is_end]))
+            self.check("and notified of its end",
+                       comes_to(SLOW, lambda lra=lra: [call for call in trip.ends() if call.lra == lra]))
         parent = second[2]
         child = client.start(parent)
-        self.check("what is nested in the second is of it", child.endswith(".2"), child)
+        self.check("an LRA nested in the second group belongs to it", child.endswith(".2"), child)
         client.join(child, trip.link())
         client.end(child)
         call = next(call for call in trip.calls if call.lra == child)
-        self.same("its parent is told", parent, call.fields["Long-Running-Action-Parent"])
+        self.same("the call names its parent", parent, call.fields["Long-Running-Action-Parent"])
         self.same("a close of the parent", (200, "Closed"), self.ended(parent))
-        self.is_declined("a group that isn't there", 404, client.status, f"{first[2]}.3")
+        self.is_declined("a group that doesn't exist", 404, client.status, f"{first[2]}.3")
         self.replay(first[2], others)
 
     def replay(self, lra: str, others: Operated) -> None:
-        """A link of the first group at the second's port, for the same number."""
+        """A link of the first group is refused at the second group's port, for an LRA with the same number."""
         trip = self.service()
         self.client.join(lra, trip.link())
         (host, port), target = with_node(self.carried(lra))
         field = f"Long-Running-Action: urn:uuid:{lra_of(lra)}"
-        self.same("a link of one group in the other", 403, asked_at((host, port + 1), "PUT", target, field))
-        self.same("calls nobody", [], trip.calls)
+        self.same("a link of one group at the other's port", 403, asked_at((host, port + 1), "PUT", target, field))
+        self.same("no participant is called", [], trip.calls)
 
     def test_beside(self) -> None:
-        """A gateway beside each node: a call for any home at any gateway."""
+        """With a gateway beside each node, each gateway takes calls for any home."""
         gateways = [self.front([[]], "wait=8000", "again=20000") for _ in range(3)]
         doors = doors_of(self.members())
         for place, gateway in enumerate(gateways):
@@ -1058,7 +1076,8 @@ class TestGateway(checks.Checked):
                 lra = self.begun_at_home(clients, home)
                 recovery = client.join(lra, trip.link())
                 self.check(f"{at}: a join", recovery.startswith(self.gateway_root()), recovery)
-                self.same(f"{at}: the same join at another", recovery, clients[number % 3].join(lra, trip.link()))
+                self.same(f"{at}: the same join at another gateway", recovery,
+                          clients[number % 3].join(lra, trip.link()))
                 client.join(lra, other.link())
                 client.leave(lra, other.link())
                 self.same(f"{at}: a status", "Active", client.status(lra))
@@ -1066,31 +1085,32 @@ class TestGateway(checks.Checked):
                 told = client.send("GET", urllib.parse.urlsplit(recovery).path)
                 self.check(f"{at}: a participant's links", trip.base() in told.text, told)
                 child = client.start(lra)
-                self.same(f"{at}: a nested one", home, home_of(uid_of(child)))
+                self.same(f"{at}: a nested LRA", home, home_of(uid_of(child)))
                 client.end(child)
                 self.same(f"{at}: a close", "Closed", client.end(lra))
-                self.same("who joined is called, who left isn't", (1, 0), (len(trip.of("complete")), len(other.calls)))
-                self.check("and told of the end", trip.is_called("after"))
-                self.is_declined(f"{at}: a cancel then", 412, client.end, lra, "cancel")
+                self.same("one that joined is called, one that left isn't", (1, 0),
+                          (len(trip.of("complete")), len(other.calls)))
+                self.check("it is notified of the end", trip.is_called("after"))
+                self.is_declined(f"{at}: a cancel after the close", 412, client.end, lra, "cancel")
 
     def gateway_root(self) -> str:
         return f"{self.client.root()}/recovery/"
 
     def begun_at_home(self, clients: list[Client], home: int) -> str:
-        """An LRA of a home, of which a gateway beside it has to begin some."""
+        """Begins an LRA of a home. The gateway beside that home begins some there."""
         for turn in range(9):
             lra = clients[(home - 1 + turn) % 3].start()
             if home_of(uid_of(lra)) == home:
                 return lra
-        raise AssertionError(f"no LRA of home {home} is begun")
+        raise AssertionError(f"no LRA of home {home} was begun")
 
     def one_away(self, gateways: list[Gateway], clients: list[Client], lras: dict[int, str]) -> None:
-        """What a gateway that is away costs, and a node."""
+        """Calls go on while a gateway is down, and while a node is."""
         lra, trip = lras[3], self.service()
-        self.check("all know it", self.nodes.all_come_to(uid_of(lra), "Active") is not None)
+        self.check("all nodes know it", self.nodes.all_come_to(uid_of(lra), "Active") is not None)
         gateways[2].kill()
-        self.same("a status while the gateway of its home is away", "Active", clients[0].status(lra))
-        self.same("begins beside", [0, 0], [code_of(client.start) for client in clients[:2]])
+        self.same("a status while the gateway beside its home is down", "Active", clients[0].status(lra))
+        self.same("begins at the other gateways", [0, 0], [code_of(client.start) for client in clients[:2]])
 
         def come_back() -> None:
             time.sleep(0.5)
@@ -1098,17 +1118,17 @@ class TestGateway(checks.Checked):
 
         with beside(come_back):
             clients[0].join(lra, trip.link())
-        self.same("a join waited for it", 1, len(self.record(lra)["members"]))
+        self.same("a join waited for the gateway", 1, len(self.record(lra)["members"]))
         self.nodes.kill(1)
         begun = [code_of(clients[0].start) for _ in range(2)]
-        self.same("a begin where the node beside is away", [0, 0], begun)
+        self.same("begins at a gateway whose own node is down", [0, 0], begun)
         self.nodes.start(1)
         self.same("a close", "Closed", clients[1].end(lra))
 
     # ---- the program
 
     def test_words(self) -> None:
-        """Other words, a key that is none, a port that is taken, and its end."""
+        """Wrong arguments, an invalid key and a port in use are refused, and the program ends when its input does."""
         nodes = ",".join(doors_of(self.nodes))
         gateway = self.front([doors_of(self.nodes)])
         good = gateway.words()
@@ -1125,22 +1145,22 @@ class TestGateway(checks.Checked):
         for words in wrong:
             status, text = ended(gateway, words)
             is_so = status == 2 and text.startswith("usage: ") and "lra_gateway listen=" in text
-            self.check(f"other words: {' '.join(words)[:100]}", is_so, (status, text[-200:]))
+            self.check(f"wrong arguments: {' '.join(words)[:100]}", is_so, (status, text[-200:]))
         for key in (None, "", KEY[:62], KEY + "00", KEY[:63] + "g"):
-            self.same(f"no key: {key}", 2, ended(gateway, good, key)[0])
+            self.same(f"an invalid key: {key}", 2, ended(gateway, good, key)[0])
         with socket.create_server((HOST, gateway.port)):
-            self.same("a port that is taken", 1, ended(gateway, good)[0])
+            self.same("a port in use", 1, ended(gateway, good)[0])
         whole = (listen, f"{base}/", calls, "limit=1", "wait=2", "again=3", "allow=h,i:80", "short=a=h:80/p",
                  "short=b=i:1/q", f"group={nodes}", "group=h:80/81,i:80")
-        self.same("all words", (0, False), has_usage(ended(gateway, whole)))
+        self.same("all options", (0, False), has_usage(ended(gateway, whole)))
         version = 0, build_said().line("lra_gateway")
         self.same("the version, without a key", version, ended(gateway, ["--version"], None))
         gateway.start()
-        self.same("its end", 0, gateway.end())
-        self.check("its port is free then", not is_open(gateway.port))
+        self.same("its exit status", 0, gateway.end())
+        self.check("its port is free afterwards", not is_open(gateway.port))
 
     def test_page(self) -> None:
-        """The lines of docs/GATEWAY.md that start a node and a gateway."""
+        """The lines of docs/GATEWAY.md that start a node and a gateway work."""
         node, door, listen, calls = free_row(4)
         script = started_by_page(self.folder, node, door, listen, calls) + "status=$?\nkill $!\nexit $status\n"
         variables = {name: text for name, text in os.environ.items() if name != KEY_NAME}
@@ -1155,15 +1175,16 @@ class TestGateway(checks.Checked):
                 seen.append(context.lra)
                 return 200
 
-            self.same("a method's code", 200, invoke(client, "REQUIRED", trip, book))
-            self.check("its LRA comes to Closed", client.comes_to(seen[0], "Closed"))
-            self.same("it was told", [("PUT", "/trip/complete?method=jakarta.ws.rs.PUT")], trip.made(seen[0]))
+            self.same("a method's status", 200, invoke(client, "REQUIRED", trip, book))
+            self.check("its LRA becomes Closed", client.comes_to(seen[0], "Closed"))
+            self.same("its participant was called", [("PUT", "/trip/complete?method=jakarta.ws.rs.PUT")],
+                      trip.made(seen[0]))
             end_input(shell)
-            self.same("the gateway ends with its input", 0, shell.wait(SLOW))
+            self.same("the gateway ends when its input does", 0, shell.wait(SLOW))
 
 
 def started_by_page(folder: str, node: int, door: int, listen: int, calls: int) -> str:
-    """The lines of docs/GATEWAY.md that start a node and a gateway, with this folder and these ports."""
+    """Returns the lines of docs/GATEWAY.md that start a node and a gateway, with this folder and these ports."""
     lines = repo.found(r"\n## Start it\n(?:.*\n)*?\n((?:    .*\n)+)", repo.read("docs/GATEWAY.md"))[1]
     for old, new in (("lra_node", Group.program), ("lra_gateway", Gateway.program), ("/var/lib/lra", folder),
                      (":8170", f":{door}"), ("/8170", f"/{door}"), (":8070", f":{node}"),
@@ -1175,7 +1196,7 @@ def started_by_page(folder: str, node: int, door: int, listen: int, calls: int) 
 
 
 def no_answer(call: Callable[..., object], *words: typing.Any) -> None:
-    """Makes a call that may find nobody in the end."""
+    """Makes a call that may fail because nothing answers any more."""
     with contextlib.suppress(Declined, OSError, http.client.HTTPException):
         call(*words)
 
@@ -1185,7 +1206,7 @@ def has_usage(ended: tuple[int, str]) -> tuple[int, bool]:
 
 
 def ended(gateway: Gateway, words: Sequence[str], key: str | None = KEY) -> tuple[int, str]:
-    """How the program ends with these words and an input that has ended, and what it tells."""
+    """Runs the program with these arguments and an empty input, and returns its exit status and what it prints."""
     variables = {name: text for name, text in os.environ.items() if name != KEY_NAME}
     if key is not None:
         variables[KEY_NAME] = key
@@ -1195,18 +1216,18 @@ def ended(gateway: Gateway, words: Sequence[str], key: str | None = KEY) -> tupl
 
 
 def lra_of(lra: str) -> str:
-    """The id by which nodes know an LRA: without its group."""
+    """Returns the id by which nodes know an LRA: without its group."""
     return uid_of(lra)[:36]
 
 
 def data_of(answer: Answer) -> tuple[int, str, str, bool]:
-    """What data tell of an LRA."""
+    """Returns what an answer with data says of an LRA."""
     data = answer.json()
     return answer.status, data["lraId"], data["status"], data["recovering"]
 
 
 def in_median(seconds: Sequence[float]) -> float:
-    """The median in milliseconds."""
+    """Returns the median in milliseconds."""
     return 1000 * statistics.median(seconds)
 
 
