@@ -1,13 +1,13 @@
 #!/usr/bin/env python3
-"""Tests members that answer only what others have stored, and whose machine is lost for good, disk and all:
+"""Tests members that answer only what other nodes have stored, and whose machine is lost for good, with its disk:
 python3 tests/copies.py [PROGRAM] [--rounds N] [--patience MS] [--copies K] [TEST..].
 
-PROGRAM is crates/lra_node/out/lra_node, or --unproved (tools/unproved.py). A TEST is one of lost, decided, heard,
-back, crowded, parted, slow, full, old, behind, restarted, forged, stranger, late, strict, anew, twice and alone;
-without one it does all, some ten minutes. In lost one of three nodes is killed with kill -9 amid a load, its folder is
-emptied, and a member of its number starts anew: N times (3 by default), each node in turn, with copies=0, 1 and 2, or
-with K alone. With copies=0 it only counts what is lost. Each check prints a line; the status is 1 where one fails.
-Standard library alone."""
+PROGRAM is crates/lra_node/out/lra_node, or --unproved (tools/unproved.py). A TEST is one of lost, decided, heard, back,
+crowded, parted, slow, full, old, behind, restarted, forged, stranger, late, strict, anew, twice and alone; without one
+it runs all tests, which takes some ten minutes. In lost, one of three nodes is killed with kill -9 under load, its
+folder is emptied, and a member with its number starts anew: N times (3 by default), each node in turn, with copies=0, 1
+and 2, or only with K. With copies=0 it only counts what is lost. Each check prints a line. Exits with 1 if a check
+fails. Uses only the standard library."""
 import contextlib
 import itertools
 import os
@@ -31,14 +31,15 @@ from tools.operated import Operated
 from tools.participant import Participant, Reply
 from tools.relays import Paired
 
-# How long nobody stores anything before a machine is lost in which a participant is called, in seconds.
+# How many seconds pass without anything being stored before a machine is lost while a participant is being called.
 QUIET = 1.5
-# Whether nobody waits any longer, how many answers wait, and how many pulls.
+# The metrics that say whether answers are no longer held for copies, how many answers wait, and how many pulls are
+# held.
 SHORT, WAITING, HELD = ("lra_copies_short",), ("lra_answers_waiting",), ("lra_pulls_held",)
 
 
 class Kept:
-    """What was answered of an LRA: its participants, and what was decided."""
+    """What was answered for an LRA: its participants and its decision."""
 
     def __init__(self) -> None:
         self.members: list[int] = []
@@ -50,7 +51,8 @@ class Kept:
 
 
 class Late(Participant):
-    """Answers a call to complete once it may go on: with 202, and is still at it when it is asked, or with 200."""
+    """Answers a call to complete only once it may go on: either with 202, and is still busy when its status is
+    requested, or with 200."""
 
     def __init__(self, code: int) -> None:
         self.code, self.is_called, self.goes_on = code, threading.Event(), threading.Event()
@@ -77,7 +79,7 @@ class Halting(Participant):
 
 
 class AtOnce:
-    """Calls that are made at once, each in a thread: from when to when each goes on."""
+    """Calls that are made at the same time, each in a thread, and when each of them began and ended."""
 
     def __init__(self, *calls: Callable[[], object]) -> None:
         self.spans = [(0.0, 0.0)] * len(calls)
@@ -97,7 +99,7 @@ class AtOnce:
 
 
 class Older(Paired):
-    """Members that hold no pulls: each asks as an older one does."""
+    """Members that hold no pulls: each asks as an older version does."""
 
     def __init__(self, count: int, folder: str, *options: str) -> None:
         super().__init__(count, folder, *options)
@@ -106,8 +108,8 @@ class Older(Paired):
 
 
 class Clients:
-    """Clients who begin LRAs at a node, join and decide them, until they are to stop. What is answered they note, how
-    long each answer took, and with what a node refused. Behind a connection that is closed they go on with another."""
+    """Clients that begin LRAs at a node, join and decide them, until they are stopped. They record what is answered,
+    how long each answer took, and with what a node refused. After a closed connection they go on with another."""
 
     def __init__(self, group: Group, home: int, count: int, link: str, limit: int = 10_000,
                  pause: float = 0.01) -> None:
@@ -162,11 +164,11 @@ class Clients:
 
     def took(self) -> str:
         times = [1000 * took for took in sorted(self.times)] or [0]
-        return f"{statistics.median(times):.1f} ms in the middle, {times[len(times) * 99 // 100]:.1f} for 99 of 100"
+        return f"median {statistics.median(times):.1f} ms, 99th percentile {times[len(times) * 99 // 100]:.1f}"
 
 
 def gone_at(group: Group, noted: dict[str, Kept]) -> list[tuple]:
-    """What was answered and isn't there at its home."""
+    """Returns what was answered and isn't there at its home."""
     wrong: list[tuple] = []
     for lra, one in noted.items():
         home = home_of(lra)
@@ -183,45 +185,45 @@ def gone_at(group: Group, noted: dict[str, Kept]) -> list[tuple]:
 
 
 def turned_at(group: Group, part: Participant) -> list[tuple]:
-    """The calls to complete or to compensate whose LRA doesn't show that at its home."""
+    """Returns the calls to complete or to compensate whose LRA doesn't show that decision at its home."""
     calls = {(call.lra, call.path.strip("/")) for call in list(part.calls)}
     shown = {lra: group.status(home_of(lra), lra) for lra, _ in calls}
     return [(lra, word, shown[lra]) for lra, word in calls if shown[lra] not in SHOWS[word]]
 
 
 def lose(group: Group, number: int) -> None:
-    """Kills a node, and empties its folder: the machine is lost."""
+    """Kills a node and empties its folder, as if its machine were lost."""
     group.kill(number)
     shutil.rmtree(f"{group.folder}/{number}")
     os.makedirs(f"{group.folder}/{number}")
 
 
 def begins(group: Group, number: int) -> bool:
-    """Whether a begin is answered with 201; not where it has no answer."""
+    """Whether a begin is answered with 201. False if there is no answer."""
     with contextlib.suppress(*GONE):
         return request(group.address(number), "POST", "/lra").status == 201
     return False
 
 
 def refuses(group: Group, number: int) -> tuple[int, bool]:
-    """The status of a begin, and whether it is E19."""
+    """Returns the status of a begin, and whether it is refused with E19."""
     answer = request(group.address(number), "POST", "/lra")
     return answer.status, "E19" in answer.text
 
 
 def begin_takes(group: Group) -> float:
-    """How many seconds the middle one of nine begins at node 1 takes."""
+    """Returns the median of how many seconds a begin at node 1 takes, over nine begins."""
     return statistics.median(timed(lambda: group.begin(1)) for _ in range(9))
 
 
 def told_to(group: Operated) -> list[float]:
-    """How many facts of node 1 both others told that they have."""
+    """Returns how many facts of node 1 each of both others has acknowledged."""
     seen = group.samples(1)
     return [seen[("lra_told", f"by={number}")] for number in (2, 3)]
 
 
 def timed(call: Callable[[], object]) -> float:
-    """For how many seconds a call goes on."""
+    """Returns for how many seconds a call goes on."""
     began = time.monotonic()
     call()
     return time.monotonic() - began
@@ -229,17 +231,17 @@ def timed(call: Callable[[], object]) -> float:
 
 class TestCopies(checks.Checked):
     needs = (Group,)
-    # How often a machine is lost, and for how long answers wait: an unproved build is slow.
+    # How often a machine is lost, and how long answers wait. The latter is long because an unproved build is slow.
     rounds = 3
     patience = 1000
-    # With how many copies, where that is said.
+    # The number of copies, if it is given.
     copies: int | None = None
 
     def words(self, copies: int, *more: str) -> list[str]:
         return [f"copies={copies}", f"patience={self.patience}", *more] if copies else list(more)
 
     def started(self, kind: type[Group], copies: int, *more: str) -> typing.Any:
-        """Three members in a folder of their own, each of which takes a begin."""
+        """Starts three members in a folder of their own, each of which accepts a begin."""
         folder = self.folder_in(f"group{len(os.listdir(self.folder))}")
         group = kind(3, folder, *self.words(copies, *more))
         self.addCleanup(group.__exit__)
@@ -251,22 +253,22 @@ class TestCopies(checks.Checked):
         return usual if self.copies is None else (self.copies,)
 
     def test_lost(self) -> None:
-        """A machine is lost amid a load."""
+        """A machine is lost under load."""
         for copies in self.counts(0, 1, 2):
             found = [self.lost_once(Group, copies, turn) for turn in range(self.rounds)]
             facts, wrong, twice, turned = (sum(counts) for counts in zip(*found, strict=True))
             if copies:
-                self.check(f"copies={copies}: of {facts} facts that were answered none is lost", wrong == 0, found)
+                self.check(f"copies={copies}: none of {facts} facts that were answered is lost", wrong == 0, found)
             else:
-                print(f"        copies=0: of {facts} facts {wrong} are lost, {twice} numbers are given twice, and"
-                      f" {turned} calls were by a decision that is lost", flush=True)
+                print(f"        copies=0: of {facts} facts {wrong} are lost, {twice} numbers are assigned twice, and"
+                      f" {turned} calls were for a decision that is lost", flush=True)
 
     def lost_once(self, kind: type[Group], copies: int, turn: int) -> tuple[int, int, int, int]:
-        """Loses a node amid a load, and gives how many facts were answered, how many of them are lost, how many numbers
-        are given twice, and how many calls were by a decision that is lost."""
+        """Loses a node under load. Returns how many facts were answered, how many of them are lost, how many numbers
+        are assigned twice, and how many calls were for a decision that is lost."""
         number = 1 + (turn + 1) % 3
         group, part = self.started(kind, copies), self.participant()
-        # They begin 150 at most, so that its home has places left: nothing is purged.
+        # They begin at most 150 LRAs, so that the home has places left: nothing is purged.
         clients, amid = Clients(group, number, 6, part.url, 25), random.randrange(20, 100)
         beside = [Clients(group, other, 1, part.url, 60) for other in (1, 2, 3) if other != number]
         begun = comes_to(SLOW, lambda: len(clients.noted) > amid)
@@ -281,24 +283,24 @@ class TestCopies(checks.Checked):
         wrong = [gone for one in (clients, *beside) for gone in gone_at(group, one.noted)]
         turned = turned_at(group, part)
         if copies:
-            self.check(f"{told}: no number is given twice", not twice, twice)
+            self.check(f"{told}: no number is assigned twice", not twice, twice)
             self.check(f"{told}: {facts} facts, answers after {clients.took()}", not wrong, wrong[:20])
-            self.check(f"{told}: each of {len(part.calls)} calls was by a decision that is kept",
+            self.check(f"{told}: each of {len(part.calls)} calls was for a decision that is kept",
                        part.calls and not turned, turned)
             self.check(f"{told}: all nodes are alike", comes_to(SLOW, group.are_alike))
         group.__exit__()
         return facts, len(wrong), len(twice), len(turned)
 
     def test_decided(self) -> None:
-        """A machine is lost in the moment in which a participant is told to complete."""
+        """A machine is lost at the moment when a participant is called to complete."""
         for copies in self.counts(0, 1):
             found = [self.decided_once(copies, turn) for turn in range(self.rounds)]
             if copies:
                 closes = all(status in SHOWS["close"] for status in found)
-                self.check(f"copies={copies}: the LRA closes whose participant was told to complete", closes, found)
+                self.check(f"copies={copies}: the LRA closes whose participant was called to complete", closes, found)
             else:
                 told = ", ".join(map(str, found))
-                print(f"        copies=0: a participant was told to complete, and the LRA shows {told}", flush=True)
+                print(f"        copies=0: a participant was called to complete, and the LRA shows {told}", flush=True)
 
     def decided_once(self, copies: int, turn: int) -> str | None:
         with Group(3, self.folder_in(f"decided{copies}-{turn}"), *self.words(copies)) as group:
@@ -327,7 +329,8 @@ class TestCopies(checks.Checked):
             return group.status(2, lra)
 
     def test_heard(self) -> None:
-        """Who was heard isn't called again, though a list of calls that was asked for before waits for copies."""
+        """A participant whose answer was received isn't called again, though a list of duties that was made before
+        waits for copies."""
         for code in (202, 200):
             self.held_once(code)
         for copies in self.counts(1, 2):
@@ -350,7 +353,7 @@ class TestCopies(checks.Checked):
         group.finish(1, lra)
         first.is_called.wait(SLOW)
         comes_to(SLOW, lambda: second.calls)
-        # A call has ten seconds, so less than that passes until it is answered.
+        # A call times out after ten seconds, so it must be answered sooner than that.
         time.sleep(3)
         first.goes_on.set()
         time.sleep(3)
@@ -358,7 +361,7 @@ class TestCopies(checks.Checked):
         comes_to(SLOW, lambda: (202 == code and "/status" in first.paths()) or group.status(1, lra) == "Closed")
         time.sleep(self.patience / 1000)
         told = [path for path in first.paths() if path == "/complete"]
-        self.same(f"one that answered {code} while a list waited is told to complete once", 1, len(told))
+        self.same(f"a participant that answered {code} while a list waited is called to complete once", 1, len(told))
 
     def loaded_once(self, copies: int) -> None:
         """Sixteen clients close LRAs of four participants each, at one node, without any fault."""
@@ -380,11 +383,11 @@ class TestCopies(checks.Checked):
         comes_to(SLOW, lambda: len(set(part.paths())) == 512)
         time.sleep(2)
         again = len(part.paths()) - len(set(part.paths()))
-        self.check(f"copies={copies}: of 512 participants that answered 200 none is called again",
+        self.check(f"copies={copies}: none of 512 participants that answered 200 is called again",
                    len(set(part.paths())) == 512 and not again, (len(set(part.paths())), again))
 
     def test_back(self) -> None:
-        """What a member over an empty folder took back waits for copies as what is new does."""
+        """What a member over an empty folder took back waits for copies just as new facts do."""
         group = self.group(3, *self.words(2, "strict")).start()
         comes_to(SLOW, lambda: all(begins(group, node) for node in (1, 2, 3)))
         part = self.participant(status=503)
@@ -397,18 +400,20 @@ class TestCopies(checks.Checked):
                 return request(group.address(1), method, path).status
             return None
 
-        self.same("a close that one of two others has isn't acknowledged", None, asked("PUT", f"/lra/{lra}/close"))
+        self.same("a close that only one of the two others has isn't acknowledged", None,
+                  asked("PUT", f"/lra/{lra}/close"))
         lose(group, 1)
         group.start(1, options=[*self.words(2, "strict"), "anew"])
         time.sleep(2 * self.patience / 1000)
         seen = [asked("GET", f"/lra/{lra}") for _ in range(3)]
-        self.check("nor is it shown once it was taken back", 200 not in seen, seen)
+        self.check("after it was taken back it isn't shown either", 200 not in seen, seen)
         group.start(3)
         shows = comes_to(SLOW, lambda: group.status(1, lra) == "Closing")
-        self.check("until the third has it too", shows, group.log(1))
+        self.check("it is shown once the third node has it too", shows, group.log(1))
 
     def test_crowded(self) -> None:
-        """Clients of a full home begin and ask, while its node is killed and started again: the others acknowledge."""
+        """Clients of a full home begin and ask, while its node is killed and started again: the others still
+        acknowledge."""
         group = self.group(3, *self.words(1, "strict"), kind=Operated).start()
         comes_to(SLOW, lambda: all(begins(group, node) for node in (1, 2, 3)))
         ended = threading.Event()
@@ -434,10 +439,10 @@ class TestCopies(checks.Checked):
         ended.set()
         for thread in threads:
             thread.join()
-        self.check(f"it is short at {sum(looks)} of 10 looks", sum(looks) <= 1, looks)
+        self.check(f"it lacks copies at {sum(looks)} of 10 looks", sum(looks) <= 1, looks)
 
     def test_stranger(self) -> None:
-        """In a group with a name nobody acknowledges who doesn't say it, and nobody gets a frame."""
+        """In a group with a name, a pull that doesn't state the name acknowledges nothing, and gets no frame."""
         group = self.group(3, "group=shop", *self.words(1, "strict")).start()
         comes_to(SLOW, lambda: all(begins(group, node) for node in (1, 2, 3)))
         for number in (2, 3):
@@ -453,13 +458,13 @@ class TestCopies(checks.Checked):
             told = f"a pull with {query.decode() or 'no query'} is refused"
             self.check(told, answer.startswith(b"HTTP/1.1 421"), answer)
         thread.join(SLOW)
-        self.same("and acknowledges nothing", [b""], answers)
+        self.same("it acknowledges nothing", [b""], answers)
         for number in (2, 3):
             group.processes[number].send_signal(signal.SIGCONT)
 
     def test_parted(self) -> None:
-        """A node is cut from both others amid a load. It answers late and refuses nothing; with the word strict it
-        acknowledges nothing, and they go on."""
+        """A node is cut off from both others under load. It answers late and refuses nothing. With the word strict it
+        acknowledges nothing, and the others go on."""
         for words in ([], ["strict"]):
             group, part = self.started(Paired, 1, *words), self.participant()
             group.again = ("E20", "E21")
@@ -470,27 +475,27 @@ class TestCopies(checks.Checked):
                 self.is_shut(group, sides)
             else:
                 self.is_late(group, sides)
-            self.check("of both others none is short", [group.samples(node)[SHORT] for node in (2, 3)] == [0, 0])
+            self.check("neither of the others lacks copies", [group.samples(node)[SHORT] for node in (2, 3)] == [0, 0])
             group.heal()
             healed = comes_to(SLOW, lambda: begins(group, 1) and group.samples(1)[SHORT] == 0)
-            self.check("healed, it waits again", healed, group.log(1))
+            self.check("after the repair it waits for copies again", healed, group.log(1))
             refused = [word for one in sides[len(words):] for word in one.refused]
-            self.same("nobody was refused, save by a strict one that is cut off", [], refused)
+            self.same("only a strict node that is cut off refused anything", [], refused)
             self.is_kept(group, part, sides)
             group.__exit__()
 
     def is_late(self, group: Operated, sides: list[Clients]) -> None:
-        """Whether node 1 comes to answer late, and all go on."""
+        """Checks that node 1 begins to answer late, and that all go on."""
 
         def late() -> bool:
             seen = group.samples(1)
             return seen[SHORT] == 1 and seen[("lra_answers_waited_total", "came=late")] > 0
 
-        self.check("cut off, it answers late", comes_to(SLOW, late), group.log(1))
-        self.go_on("then all go on", sides)
+        self.check("while cut off it answers late", comes_to(SLOW, late), group.log(1))
+        self.go_on("all go on", sides)
 
     def is_shut(self, group: Operated, sides: list[Clients]) -> None:
-        """Whether node 1 comes to refuse commands, and has acknowledged nothing since it was cut off, while the others
+        """Checks that node 1 begins to refuse commands and acknowledges nothing after it was cut off, while the others
         go on."""
         time.sleep(self.patience / 2000)
         before = sides[0].facts()
@@ -500,31 +505,31 @@ class TestCopies(checks.Checked):
                 return refuses(group, 1) == (503, True)
             return False
 
-        self.check("cut off, it refuses commands", comes_to(SLOW, is_refused), group.log(1))
-        self.same("and says why", (503, {"ready": False, "cause": "copies"}), group.told(1, "/ready"))
+        self.check("while cut off it refuses commands", comes_to(SLOW, is_refused), group.log(1))
+        self.same("it gives the reason", (503, {"ready": False, "cause": "copies"}), group.told(1, "/ready"))
         self.go_on("the others go on", sides[1:])
         self.same("it acknowledged nothing", before, sides[0].facts())
 
     def go_on(self, what: str, sides: list[Clients]) -> None:
-        """Whether clients are answered further."""
+        """Checks that clients still get answers."""
         before = [one.facts() for one in sides]
         goes = comes_to(SLOW, lambda: all(one.facts() > had + 5 for one, had in zip(sides, before, strict=True)))
         self.check(what, goes, (before, [one.facts() for one in sides]))
 
     def is_kept(self, group: Group, part: Participant, sides: list[Clients]) -> None:
-        """Whether all is there that was answered, and nobody was called by what isn't, once clients stop."""
+        """Stops the clients, and checks that all answered facts are there, and that no call was for a lost decision."""
         for one in sides:
             one.stop()
         alike = comes_to(SLOW, group.are_alike)
         wrong = [gone for one in sides for gone in gone_at(group, one.noted)] + turned_at(group, part)
         facts = sum(one.facts() for one in sides)
-        self.check(f"of {facts} facts that were answered, and {len(part.calls)} calls, none is lost",
+        self.check(f"none of {facts} facts that were answered, and of {len(part.calls)} calls, is lost",
                    facts and part.calls and not wrong, wrong[:20])
         self.check("all nodes are alike", alike)
 
     def test_slow(self) -> None:
-        """One of the others is behind a line that lags: with copies=1 nothing waits for it, with copies=2 each answer
-        does, and no worker. Then it is behind a narrow one."""
+        """One of the others is behind a line that lags: with copies=1 nothing waits for it; with copies=2 each answer
+        does, but no worker. Then it is behind a narrow line."""
         for copies in self.counts(1, 2):
             group, told = self.started(Paired, copies), f"copies={copies}"
             quick = begin_takes(group)
@@ -537,14 +542,14 @@ class TestCopies(checks.Checked):
                 self.waits_for_none(group, max(lag, 3 * quick))
             else:
                 self.holds_nobody(group, max(lag, 3 * quick))
-            self.check(f"{told}: none is short", group.samples(1)[SHORT] == 0)
+            self.check(f"{told}: it doesn't lack copies", group.samples(1)[SHORT] == 0)
             for relay in group.relays_of(3):
                 relay.lag, relay.rate = 0, 0
             self.check(f"{told}: all nodes are alike", comes_to(SLOW, group.are_alike))
             group.__exit__()
 
     def is_in_time(self, group: Operated, copies: int, lag: float, quick: float) -> None:
-        """Whether an answer comes once two have what it shows, or all three."""
+        """Checks that an answer comes once two nodes, or all three, have what it shows."""
         times: list[float] = []
         seen: list[list[float]] = []
         for _ in range(9):
@@ -555,21 +560,21 @@ class TestCopies(checks.Checked):
         what = f"{told}: with a lag of {1000 * lag:.0f} ms an answer takes {1000 * took:.0f} ms"
         self.check(f"{what}, without {1000 * quick:.0f}", least <= took < most, times)
         steps = {after[0] - before[0] for before, after in itertools.pairwise(seen)}
-        self.check(f"{told}: then the second has what it shows", steps == {1}, seen)
+        self.check(f"{told}: by then the second node has what it shows", steps == {1}, seen)
         is_so = [second > third if copies == 1 else second == third for second, third in seen]
-        self.check(f"{told}: and the third {'lacks' if copies == 1 else 'has'} it", all(is_so), seen)
+        self.check(f"{told}: the third node {'lacks' if copies == 1 else 'has'} it", all(is_so), seen)
 
     def holds_nobody(self, group: Operated, most: float) -> None:
-        """Whether more answers wait than there are workers, and another is given."""
+        """Checks that more answers wait than there are workers, and that another answer is still given."""
         begun = AtOnce(*[lambda: group.begin(1)] * 12)
         waiting = comes_to(SLOW, lambda: group.samples(1)[WAITING] > 4)
         other = timed(lambda: request(group.address(1), "GET", "/nowhere"))
         begun.join()
-        self.check(f"more wait than there are workers, and another takes {1000 * other:.0f} ms",
+        self.check(f"more answers wait than there are workers, and another takes {1000 * other:.0f} ms",
                    waiting and other < 2 * most, other)
 
     def waits_for_none(self, group: Operated, most: float) -> None:
-        """Whether nothing waits for a long frame that one of the others takes slowly."""
+        """Checks that nothing waits for a long frame that one of the others receives slowly."""
         for relay in group.relays_of(3):
             relay.lag, relay.rate = 0, 500
         lra, link = group.begin(1), "http://127.0.0.1:9/" + "c" * 100
@@ -577,43 +582,44 @@ class TestCopies(checks.Checked):
             group.join(1, lra, compensate=link, complete=link, status=link)
         took, last = begin_takes(group), group.begin(1)
         is_behind = last not in group.shown(3)
-        self.check(f"while the third takes a long frame, an answer takes {1000 * took:.0f} ms",
+        self.check(f"while the third receives a long frame, an answer takes {1000 * took:.0f} ms",
                    is_behind and took < most, (is_behind, took))
 
     def test_full(self) -> None:
         """The disk of one of the others is full: it acknowledges nothing until there is room again."""
         for copies in self.counts(1, 2):
             group, told = self.started(Operated, copies), f"copies={copies}"
-            self.check(f"{told}: both others tell the same", comes_to(SLOW, lambda: len(set(told_to(group))) == 1))
+            self.check(f"{told}: both others have acknowledged the same",
+                       comes_to(SLOW, lambda: len(set(told_to(group))) == 1))
             before = told_to(group)
             limit_files(group.processes[3], 1)
             self.is_full(group, copies, before)
             limit_files(group.processes[3], -1)
             back = comes_to(SLOW, lambda: begins(group, 1) and group.samples(1)[SHORT] == 0)
-            self.check(f"{told}: with room again it isn't short", back, group.log(1))
+            self.check(f"{told}: with room again it doesn't lack copies", back, group.log(1))
             counted = comes_to(SLOW, lambda: len(set(told_to(group))) == 1)
             self.check(f"{told}: the third acknowledges again", counted, told_to(group))
             self.check(f"{told}: all nodes are alike", comes_to(SLOW, group.are_alike))
             group.__exit__()
 
     def is_full(self, group: Operated, copies: int, before: list[float]) -> None:
-        """Whether node 3 acknowledges nothing, and what waits for that."""
+        """Checks that node 3 acknowledges nothing, and which answers wait for that."""
         limit, told = self.patience / 1000, f"copies={copies}"
         first = timed(lambda: group.begin(1))
         then = begin_takes(group)
         heard = comes_to(SLOW, lambda: told_to(group)[0] >= before[0] + 10)
         seen = told_to(group)
         self.check(f"{told}: a full disk acknowledges nothing", heard and seen[1] == before[1], (before, seen))
-        self.check(f"{told}: an answer takes {1000 * first:.0f} ms, those behind it {1000 * then:.0f}",
+        self.check(f"{told}: the first answer takes {1000 * first:.0f} ms, later ones {1000 * then:.0f}",
                    (limit <= first < 3 * limit if copies == 2 else first < limit / 2) and then < limit / 2, first)
-        self.same(f"{told}: whether it is short", copies == 2, group.samples(1)[SHORT] == 1)
+        self.same(f"{told}: whether it lacks copies", copies == 2, group.samples(1)[SHORT] == 1)
 
     def test_old(self) -> None:
-        """Members hold no pulls, as older ones don't: answers come, and what they show is kept."""
+        """Members that hold no pulls, like older versions, still answer, and what they answered is kept."""
         group = self.started(Older, 1)
         took = begin_takes(group)
         self.check(f"an answer takes {1000 * took:.0f} ms", took < self.patience / 4000, took)
-        self.check("none is short", [group.samples(node)[SHORT] for node in (1, 2, 3)] == [0, 0, 0])
+        self.check("no node lacks copies", [group.samples(node)[SHORT] for node in (1, 2, 3)] == [0, 0, 0])
         none = comes_to(SLOW, lambda: [group.samples(node)[HELD] for node in (1, 2, 3)] == [0, 0, 0])
         self.check("no pull is held", none)
         group.__exit__()
@@ -621,31 +627,32 @@ class TestCopies(checks.Checked):
             self.lost_once(Older, 1, turn)
 
     def test_behind(self) -> None:
-        """The other machines hang: answers wait for the patience, all at once, then none does."""
+        """The other machines hang: answers wait for the patience, all at the same time, and then none waits any
+        more."""
         limit = 3 * self.patience / 1000
         group = self.group(3, "copies=1", f"patience={3 * self.patience}", kind=Operated).start()
         comes_to(SLOW, lambda: begins(group, 1))
         known = group.begin(1)
         group.finish(1, known)
         quick = timed(lambda: group.begin(1))
-        self.check(f"with copies an answer comes soon ({1000 * quick:.0f} ms)", quick < limit / 3, quick)
+        self.check(f"an answer with copies comes soon ({1000 * quick:.0f} ms)", quick < limit / 3, quick)
         for number in (2, 3):
             group.processes[number].send_signal(signal.SIGSTOP)
         self.all_wait(group, known, limit)
         then = timed(lambda: group.begin(1))
-        self.check(f"then none waits ({1000 * then:.0f} ms)", then < limit / 3, then)
-        self.check("it tells so", group.samples(1)[SHORT] == 1)
+        self.check(f"then no answer waits ({1000 * then:.0f} ms)", then < limit / 3, then)
+        self.check("its metrics say so", group.samples(1)[SHORT] == 1)
         warns = comes_to(5, lambda: "before 1 other node had what they show" in group.log(1))
-        self.check("and warns", warns, group.log(1))
+        self.check("it logs a warning", warns, group.log(1))
         for number in (2, 3):
             group.processes[number].send_signal(signal.SIGCONT)
         back = comes_to(SLOW, lambda: begins(group, 1) and group.samples(1)[SHORT] == 0)
-        self.check("with the others back it waits again", back)
-        self.check("and tells so", comes_to(5, lambda: "copied to 1 other node again" in group.log(1)), group.log(1))
+        self.check("with the others back it waits for copies again", back)
+        self.check("it logs that", comes_to(5, lambda: "copied to 1 other node again" in group.log(1)), group.log(1))
 
     def all_wait(self, group: Operated, known: str, limit: float) -> None:
-        """Whether answers of node 1 wait for the patience from the first one on, an operator's for a second, and no
-        worker does. A close of what has ended is refused."""
+        """Checks that answers of node 1 wait for the patience from the first one on, that an operator's wait for a
+        second, and that no worker waits. A close of an ended LRA is refused."""
         began = time.monotonic()
         begun = AtOnce(*[lambda: group.begin(1)] * 8)
         comes_to(limit, lambda: group.samples(1)[WAITING] == 8)
@@ -657,16 +664,16 @@ class TestCopies(checks.Checked):
         *questions, operators = asked.join()
         ends = [end - began for _, end in (*begun.join(), *questions)]
         self.check(f"8 answers wait after {asked_at:.1f} s", seen == 8 and asked_at < limit / 2, seen)
-        what = f"they, a question, a page and a refusal wait for the patience ({min(ends):.1f} to {max(ends):.1f} s)"
+        what = f"they, a status, a page and a refusal wait for the patience ({min(ends):.1f} to {max(ends):.1f} s)"
         self.check(what, limit <= min(ends) and max(ends) < 2 * limit, ends)
         took = operators[1] - operators[0]
-        self.check(f"an operator waits for a second ({took:.1f})", 1 <= took < limit - asked_at, took)
+        self.check(f"an operator's answer waits for a second ({took:.1f})", 1 <= took < limit - asked_at, took)
         is_quick = code == [404] and other < limit / 3
-        self.check(f"and no worker does: another answer takes {1000 * other:.0f} ms", is_quick)
+        self.check(f"no worker waits: another answer takes {1000 * other:.0f} ms", is_quick)
 
     def test_restarted(self) -> None:
-        """A node that is killed while an answer waits shows nothing of it at its next start before others have it, or
-        the patience is over, and calls nobody."""
+        """A node that is killed while an answer waits shows nothing of it after its next start, and calls no
+        participant for it, until the others have it or the patience is over."""
         limit = 4 * self.patience / 1000
         group = self.group(3, "copies=1", f"patience={4 * self.patience}", kind=Operated).start()
         comes_to(SLOW, lambda: begins(group, 1))
@@ -694,23 +701,23 @@ class TestCopies(checks.Checked):
         called = [call.at - up for call in part.calls]
         for number in (2, 3):
             group.processes[number].send_signal(signal.SIGCONT)
-        self.check(f"then what it shows waits too, for {took:.1f} s from when it listens",
+        self.check(f"after the restart what it shows waits too, for {took:.1f} s after it listens",
                    0.75 * limit < took < 2 * limit, took)
-        self.check("nobody was called before", not called or min(called) > 0.75 * limit, called)
-        self.check("and it ends", comes_to(SLOW, lambda: group.status(1, lra) == "Closed"), group.log(1))
+        self.check("no participant was called before that", not called or min(called) > 0.75 * limit, called)
+        self.check("the LRA ends", comes_to(SLOW, lambda: group.status(1, lra) == "Closed"), group.log(1))
 
     def test_forged(self) -> None:
-        """Who asks as if it had facts that were never given stops nobody."""
+        """A pull that claims facts that never existed stops no node."""
         group = self.group(3, *self.words(1)).start()
         comes_to(SLOW, lambda: all(begins(group, node) for node in (1, 2, 3)))
         body = b"\x03" + b"".join(count.to_bytes(8, "big") for count in (10_000, 0, 0))
         answer = exchange(group.address(1), b"POST /peer/pull?from=2&to=1 HTTP/1.1\r\nHost: p\r\nContent-Length: "
                  b"%d\r\n\r\n%b" % (len(body), body))
         self.check("a forged pull is answered", answer.startswith(b"HTTP/1.1 200"), answer[:80])
-        self.same("and stops nobody", (201, False), refuses(group, 1))
+        self.same("it stops no node", (201, False), refuses(group, 1))
 
     def test_late(self) -> None:
-        """With copies=2 and one machine away participants are called all the same."""
+        """With copies=2 and one machine down participants are called all the same."""
         group = self.group(3, *self.words(2)).start()
         comes_to(SLOW, lambda: begins(group, 1))
         part = self.participant()
@@ -723,47 +730,48 @@ class TestCopies(checks.Checked):
         was_called = part.made(lra)
         thread.join()
         self.check("a participant isn't called at once", not was_called, was_called)
-        self.check("it is without the third, though", comes_to(SLOW, lambda: part.made(lra)), group.log(1))
+        self.check("later it is called without the third node", comes_to(SLOW, lambda: part.made(lra)), group.log(1))
         group.start(3)
-        self.check("and it shows the end", group.comes_to(3, lra, "Closed") is not None)
+        self.check("the third node shows the end", group.comes_to(3, lra, "Closed") is not None)
 
     def test_strict(self) -> None:
-        """With the word strict nothing is entered while too few have what is stored."""
+        """With the word strict nothing is applied while too few nodes have what is stored."""
         group = self.group(2, *self.words(1, "strict"), kind=Operated).start()
-        self.check("it enters", comes_to(SLOW, lambda: begins(group, 1)), group.log(1))
+        self.check("it accepts a begin", comes_to(SLOW, lambda: begins(group, 1)), group.log(1))
         group.kill(2)
         answer: object = None
         with contextlib.suppress(*GONE):
             answer = request(group.address(1), "POST", "/lra")
-        self.check("what was entered already isn't acknowledged", answer is None, answer)
+        self.check("a begin that was already applied isn't acknowledged", answer is None, answer)
         self.same("then commands are refused", (503, True), refuses(group, 1))
-        self.same("and it says why", (503, {"ready": False, "cause": "copies"}), group.told(1, "/ready"))
+        self.same("it gives the reason", (503, {"ready": False, "cause": "copies"}), group.told(1, "/ready"))
         group.start(2)
-        self.check("until the other is back", comes_to(SLOW, lambda: begins(group, 1)))
+        self.check("they are accepted once the other node is back", comes_to(SLOW, lambda: begins(group, 1)))
 
     def test_anew(self) -> None:
-        """What a member over an empty folder takes, and when."""
+        """A member over an empty folder takes its facts back, and accepts commands only when it may."""
         group = self.group(3, "copies=1").start()
         comes_to(SLOW, lambda: begins(group, 2))
         had = [group.begin(2) for _ in range(5)]
         lose(group, 2)
         group.start(2)
         time.sleep(3)
-        self.same("without the word it enters nothing", (503, True), refuses(group, 2))
+        self.same("without the word anew it accepts no command", (503, True), refuses(group, 2))
         shown = request(group.address(2), "GET", f"/lra/{had[0]}").status
-        self.same("and says of no LRA that there is none", 503, shown)
-        self.check("and says why", "with the word anew" in group.log(2), group.log(2))
+        self.same("it doesn't call an LRA unknown", 503, shown)
+        self.check("it logs the reason", "with the word anew" in group.log(2), group.log(2))
         group.kill(2, 3)
         group.start(2, options=["copies=1", "anew"])
         back = comes_to(SLOW, lambda: all(group.status(2, lra) == "Active" for lra in had))
-        self.check("with it, it shows what it took back", back, group.log(2))
-        self.same("and enters nothing until all others were heard", (503, True), refuses(group, 2))
+        self.check("with the word it shows what it took back", back, group.log(2))
+        self.same("it accepts no command until it has pulled from all others", (503, True), refuses(group, 2))
         group.start(3)
-        self.check("then it enters", comes_to(SLOW, lambda: begins(group, 2)), group.log(2))
-        self.check("with new numbers", group.begin(2) not in had)
+        self.check("then it accepts a begin", comes_to(SLOW, lambda: begins(group, 2)), group.log(2))
+        self.check("the begun LRA has a new number", group.begin(2) not in had)
 
     def test_twice(self) -> None:
-        """Two processes of one number: the one that hears of more facts than it gave stops entering."""
+        """If two processes have the same number, one that learns of more facts than it made itself stops accepting
+        commands."""
         group = self.group(3, *self.words(1)).start()
         comes_to(SLOW, lambda: all(begins(group, node) for node in (1, 2, 3)))
         other = self.folder_in("other")
@@ -784,13 +792,13 @@ class TestCopies(checks.Checked):
                 begins(second, 1)
                 return any("two processes may have its number" in one.log(1) for one in (group, second))
 
-            self.check("one of both says that another gives its numbers", comes_to(SLOW, is_seen),
+            self.check("one of them logs that another process assigns its numbers", comes_to(SLOW, is_seen),
                        (group.log(1), second.log(1)))
             stops = comes_to(SLOW, lambda: (503, True) in (refuses(group, 1), refuses(second, 1)))
-            self.check("and enters nothing more", stops)
+            self.check("it accepts no more commands", stops)
 
     def test_alone(self) -> None:
-        """Words that go with copies alone, or with one node in its process."""
+        """Arguments that need copies, or a process with only one node, are refused otherwise."""
         group = self.group(3)
         for words in (["strict"], ["patience=1"], ["copies=3"], ["copies=1", "copies=1"], ["strict", "copies=1"]):
             group.run(1, words)
@@ -799,7 +807,7 @@ class TestCopies(checks.Checked):
         self.same("two nodes in one process have no copies", 2, group.processes[1].wait(SLOW))
 
 
-# The option that says how often a test does what it does, or how.
+# The options that say how often a test does something, or how.
 COUNTS = {"--rounds": "rounds", "--patience": "patience", "--copies": "copies"}
 
 

@@ -1,13 +1,12 @@
 #!/usr/bin/env python3
-"""Tests members of a group, as who runs them meets them: python3 tests/member.py [PROGRAM] [--kills N] [--lras N]
-[TEST..].
+"""Tests members of a group from outside: python3 tests/member.py [PROGRAM] [--kills N] [--lras N] [TEST..].
 
 PROGRAM is crates/lra_node/out/lra_node, or --unproved (tools/unproved.py). A TEST is one of version, words, three,
-some, older, strange, kills, swept, flow, full, misspelt, moved, apart and elsewhere; without one it does all, some two
-minutes. In kills a node, or all, is killed with kill -9 N times, 10 by default; --lras N says how many go through a
-home in flow, 2,000 by default. misspelt and moved need lra_node too, apart and elsewhere root, and all are skipped
-where that isn't there.
-Each check prints a line; the status is 1 where one fails. Standard library alone."""
+some, older, strange, kills, swept, flow, full, misspelt, moved, apart and elsewhere; without one it runs all tests,
+which takes some two minutes. The test kills kills a node, or all nodes, with kill -9 N times, 10 by default. --lras N
+says how many LRAs go through a home in flow, 2,000 by default. misspelt and moved also need lra_node, and apart and
+elsewhere need root; tests are skipped if what they need is missing. Each check prints a line. Exits with 1 if a check
+fails. Uses only the standard library."""
 import concurrent.futures
 import glob
 import os
@@ -36,7 +35,8 @@ NO_FOLDER = b"node 2: can't open its journal: the folder is missing, permission 
             b"is left\njournal 2\n"
 # LRAs with their statuses.
 Shown = dict[str, str]
-# Bodies that members refuse, of which a node of lra_node takes some: of a begin, of a join and of a report; and why.
+# Bodies that members refuse, although a node of lra_node accepts some of them: of a begin, of a join and of a report;
+# and the reason.
 WRONG_BEGINS = [
     ('{"timeLimit":5000}', "timeLimit is not known here"),
     ('{"limit":5000,"client id":"x"}', "a member is not known here"),
@@ -61,7 +61,7 @@ WRONG_REPORTS = [
     ('{"act":"complete"}', "outcome is none of busy, done and failed"),
 ]
 EIGHT = [f"h:{number}" for number in range(1, 9)]
-# Words that it doesn't take; DIR stands for a folder.
+# Arguments that the program doesn't accept; DIR stands for a folder.
 OTHER_WORDS: list[list[str]] = [
     [],
     ["1"],
@@ -140,7 +140,8 @@ OTHER_WORDS: list[list[str]] = [
 
 
 def begun_at_once(group: Group, node: int) -> tuple[str, float]:
-    """Starts a node, and begins an LRA there as soon as it takes a connection: which, and how long its answer took."""
+    """Starts a node, and begins an LRA there as soon as it accepts a connection. Returns the LRA, and how long the
+    answer took."""
     group.run(node)
     end = time.monotonic() + SLOW
     while time.monotonic() < end:
@@ -149,11 +150,11 @@ def begun_at_once(group: Group, node: int) -> tuple[str, float]:
             return group.begin(node), time.monotonic() - asked
         except ConnectionRefusedError:
             time.sleep(0.002)
-    raise SystemExit(f"node {node} doesn't come up: {group.log(node)}")
+    raise SystemExit(f"node {node} doesn't start: {group.log(node)}")
 
 
 def serve_bytes(listener: socket.socket, answers: list[bytes]) -> None:
-    """Answers each connection with the next of some bytes, whatever it asks, until the listener is closed."""
+    """Answers each connection with the next of some byte strings, whatever it asks, until the listener is closed."""
     i = 0
     while True:
         try:
@@ -171,21 +172,21 @@ def serve_bytes(listener: socket.socket, answers: list[bytes]) -> None:
 
 
 def with_length(body: bytes, length: int | None = None) -> bytes:
-    """An answer that states a length."""
+    """Returns an answer that states a length."""
     stated = len(body) if length is None else length
     return f"HTTP/1.1 200 OK\r\nContent-Length: {stated}\r\nConnection: close\r\n\r\n".encode() + body
 
 
 def slow_participant(port: int = 0) -> Participant:
-    """A participant of which those that report by themselves are never done when they are called."""
+    """Makes a server of participants. Those at /slow answer 503, since they report their outcomes by themselves."""
     part = Participant(port)
     part.answers["/slow"] = 503
     return part
 
 
 def killed_once(group: Group, which: tuple[int, ...], dice: random.Random) -> tuple[str, dict[str, object]]:
-    """Kills nodes amid a load, starts them again, and looks at what is there: what there was, and what isn't as it has
-    to be."""
+    """Kills nodes under load, starts them again, and checks what is there. Returns what the load was, and what is
+    wrong."""
     part = slow_participant()
     load = Load(group, dice, lambda _: part)
     comes_to(SLOW, lambda: len(load.noted) > 9)
@@ -209,11 +210,12 @@ def killed_once(group: Group, which: tuple[int, ...], dice: random.Random) -> tu
     wrong["misled"] = list(misled(part, load.noted, ended))
     wrong["not ended"] = sorted(set(ended.values()) - ENDED)
     part.close()
-    return f"{len(load.noted)} LRAs, {len(told)} outcomes told", {what: seen for what, seen in wrong.items() if seen}
+    return f"{len(load.noted)} LRAs, {len(told)} outcomes reported", {what: seen for what,
+                                                                      seen in wrong.items() if seen}
 
 
 def purge_all(group: Group) -> dict[str, str]:
-    """Purges all, and gives what is still there."""
+    """Purges all LRAs, and returns those that are still there."""
     with concurrent.futures.ThreadPoolExecutor(6) as pool:
         list(pool.map(lambda lra: group.purge(home_of(lra), lra), group.shown_at_home()))
     return group.shown_at_home()
@@ -227,7 +229,7 @@ class Flow:
         self.refusals: list[str | None] = []
 
     def begin(self, body: Json) -> str:
-        """Begins an LRA, once there is room."""
+        """Begins an LRA, as soon as there is room."""
         while True:
             code, answer = self.group.ask(1, "POST", "/lra", body)
             if code == 201:
@@ -236,7 +238,8 @@ class Flow:
             time.sleep(0.02)
 
     def one(self, i: int) -> tuple[str, int]:
-        """Begins and closes an LRA. Of ten one has a participant and a listener, and one has another nested in it."""
+        """Begins and closes an LRA. One in ten has a participant and a listener, and one in ten has another LRA nested
+        in it."""
         lra, url = self.begin({}), self.part.url
         if i % 10 == 1:
             self.group.join(1, lra, compensate=f"{url}/c", complete=f"{url}/k", after=f"{url}/a")
@@ -254,8 +257,8 @@ def move(files: Iterable[str], folder: str) -> None:
 
 
 class Strange(Group):
-    """Seven nodes of which only 1, 2 and 7 are members. 4 is a name that leads nowhere, and 7 counts two nodes, itself
-    the first."""
+    """Seven nodes, of which only 1, 2 and 7 are members. Node 4 has a name that doesn't resolve, and node 7 is
+    configured as the first of two nodes."""
 
     def __init__(self, count: int, folder: str, *options: str) -> None:
         super().__init__(count, folder, *options)
@@ -272,7 +275,7 @@ class TestMembers(checks.Checked):
     lras = 2000
 
     def test_words(self) -> None:
-        """Other arguments, what can't be had, and where a node listens."""
+        """Wrong arguments, missing folders and ports in use are refused, and a node listens where it should."""
         for given in OTHER_WORDS:
             ran = self.run_with(*[word.replace("DIR", self.folder) for word in given])
             is_usage = ran.returncode == 2 and ran.stderr.startswith(USAGE)
@@ -290,9 +293,9 @@ class TestMembers(checks.Checked):
             ["2", "DIR/none", "names=lra2,lra-2.example_1", f"group={'g' * 64}", "anew", "h:1", "anew.h:2"],
         ):
             ran = self.run_with(*[word.replace("DIR", self.folder) for word in given])
-            self.check(f"a folder that isn't there: {' '.join(given)}", (ran.returncode, ran.stderr) == (1, NO_FOLDER),
+            self.check(f"a missing folder: {' '.join(given)}", (ran.returncode, ran.stderr) == (1, NO_FOLDER),
                        ran)
-        # The words of the page are taken: there is only no such folder.
+        # The commands on the page are accepted: only the folder is missing.
         lines = re.findall(r"^    lra_node member (.*)$", repo.read("docs/OPERATING.md"), re.M)
         self.check("the page has three commands", len(lines) == 3, lines)
         for line in lines:
@@ -301,16 +304,17 @@ class TestMembers(checks.Checked):
             self.check(f"OPERATING: lra_node member {line}", is_so, ran)
         every = ["keep=0", "keep-failed=18446744073709551615"]
         with self.node("1", self.folder, f"listen=0.0.0.0:{third}", *every, f"elsewhere:{fourth}") as node:
-            self.check("it listens where it is told to", comes_to(SLOW, lambda: is_open(third)) and not is_open(fourth))
+            self.check("it listens at the configured address",
+                       comes_to(SLOW, lambda: is_open(third)) and not is_open(fourth))
             end_input(node)
             self.check("and ends", node.wait(SLOW) == 0)
         with self.node("1", self.folder, f"elsewhere:{fourth}"):
-            self.check("else on the loopback interface", comes_to(SLOW, lambda: is_open(fourth)))
+            self.check("by default it listens on the loopback interface", comes_to(SLOW, lambda: is_open(fourth)))
             listens = [address for address, _ in listening() if address.endswith(f":{fourth:04X}")]
             self.check("and nowhere else", listens == [f"0100007F:{fourth:04X}"], listens)
 
     def test_version(self) -> None:
-        """Which build it says that it is."""
+        """The program prints which build it is."""
         ran = self.run_with("--version")
         wanted = 0, build_said().line("lra_node").encode(), b""
         self.check("the version", (ran.returncode, ran.stdout, ran.stderr) == wanted, ran)
@@ -319,18 +323,19 @@ class TestMembers(checks.Checked):
             old = f"{self.folder}/lra_member"
             os.symlink(os.path.abspath(Group.program), old)
             ran = subprocess.run([old, "--version"], stdin=subprocess.DEVNULL, capture_output=True)
-            self.check("a link of its old name runs members", (ran.returncode, ran.stdout, ran.stderr) == wanted, ran)
+            self.check("a link with the old name runs members", (ran.returncode, ran.stdout, ran.stderr) == wanted, ran)
 
     def run_with(self, *words: str) -> subprocess.CompletedProcess:
-        """What comes of words with which it ends."""
+        """Runs the program with arguments with which it exits by itself."""
         return subprocess.run([Group.program, "member", *words], stdin=subprocess.DEVNULL, capture_output=True)
 
     def node(self, *words: str) -> subprocess.Popen:
-        """A member that runs, until its input ends."""
+        """Starts a member, which runs until its input ends."""
         return subprocess.Popen([Group.program, "member", *words], stdin=subprocess.PIPE)
 
     def test_three(self) -> None:
-        """News, reports at each node, a node that is down for a while, and what is told of it."""
+        """Three members share what each begins, accept reports at each node, and go on while a node is down for a
+        while."""
         group, part = self.group(3).start(), self.participant()
         late = []
         for i in range(12):
@@ -338,27 +343,27 @@ class TestMembers(checks.Checked):
             home = 1 + i % 3
             lra = group.begin(home)
             late.append(group.all_come_to(lra, "Active") or SLOW)
-        what = f"{in_ms(max(late))} at most, {in_ms(sorted(late)[6])} the middle one"
+        what = f"{in_ms(max(late))} at most, median {in_ms(sorted(late)[6])}"
         self.check(f"what a node begins is shown by both others ({what})", max(late) < 5, late)
         lra = group.begin(1)
         group.all_come_to(lra, "Active")
         group.join(1, lra, compensate=f"{part.url}/c", complete=f"{part.url}/k")
         self.check("it closes", group.finish(1, lra) == 200)
-        self.check("its participant is told", comes_to(30, lambda: part.made(lra) == [("PUT", "/k")]), part.made(lra))
+        self.check("its participant is called", comes_to(30, lambda: part.made(lra) == [("PUT", "/k")]), part.made(lra))
         self.check("all nodes show it closed", group.all_come_to(lra, "Closed") is not None)
         foreign = group.join(3, lra, compensate=part.url)
-        self.check("another node's LRA can be joined at its home alone",
+        self.check("another node's LRA can be joined only at its home",
                    (foreign[0], foreign[1].get("refused")) == (421, "E4 NotHome 1"), foreign)
         trip = self.reported(group)
         self.is_down(group, {lra: "Closed", trip: "Cancelled"})
         ended = group.end()
-        self.check("all end with their input", ended == [0, 0, 0], ended)
-        self.check("node 2 tells nothing", group.log(2) == "", group.log(2))
+        self.check("all end when their input does", ended == [0, 0, 0], ended)
+        self.check("node 2 logs nothing", group.log(2) == "", group.log(2))
         for number in (1, 2, 3):
             self.is_whole(f"{self.folder}/{number}/node-{number}.db", number)
 
     def reported(self, group: Group) -> str:
-        """Outcomes are told at each node. The last LRA of which one was."""
+        """Reports an outcome at each node, and returns the last LRA for which one was reported."""
         part = slow_participant()
         for node in (1, 2, 3):
             trip = group.begin(1)
@@ -366,7 +371,7 @@ class TestMembers(checks.Checked):
             group.finish(1, trip, "cancel")
             self.check(f"node {node} shows it cancelling", group.comes_to(node, trip, "Cancelling") is not None)
             told = group.ask(node, "PUT", f"/lra/{trip}/member/1/report", {"act": "compensate", "outcome": "done"})
-            self.check(f"an outcome is told at node {node}", told[0] == 204, told)
+            self.check(f"an outcome is reported at node {node}", told[0] == 204, told)
             took = group.all_come_to(trip, "Cancelled")
             self.check(f"and all show it cancelled ({in_ms(took)})", took is not None, group.status(1, trip))
         return trip
@@ -379,22 +384,22 @@ class TestMembers(checks.Checked):
                    all(group.all_come_to(lra, "Active", (1, 3)) is not None for lra in missed))
         for node in (1, 3):
             is_told = comes_to(60, lambda: f"node {node}: node 2 can't be reached" in group.lines(node))
-            self.check(f"node {node} tells that node 2 can't be reached", is_told, group.log(node))
+            self.check(f"node {node} logs that node 2 can't be reached", is_told, group.log(node))
         group.start(2)
         times = [group.comes_to(2, lra, "Active") for lra in missed]
         self.check(f"started again, node 2 shows what it missed ({in_ms(times[0])})", None not in times)
         shown = {lra: group.status(2, lra) for lra in known}
-        self.check("node 2 shows what it knew", shown == known, shown)
+        self.check("node 2 shows what it knew before", shown == known, shown)
         mine = group.begin(2)
-        self.check("what it begins then is shown by the others", group.all_come_to(mine, "Active", (1, 3)) is not None)
+        self.check("the others show what it begins then", group.all_come_to(mine, "Active", (1, 3)) is not None)
         for node in (1, 3):
             wanted = [f"node {node}: node 2 can't be reached", f"node {node}: node 2 answers again"]
             comes_to(60, lambda: len(group.lines(node)) >= 2)
-            self.check(f"node {node} tells that it answers again, and nothing else", group.lines(node) == wanted,
+            self.check(f"node {node} logs that it answers again, and nothing else", group.lines(node) == wanted,
                        group.log(node))
 
     def test_some(self) -> None:
-        """Two nodes in one process, and a third in another."""
+        """Two nodes in one process work together with a third in another process."""
         group = self.group(3)
         group.start(1, word="1-2").start(3)
         for home in (1, 2, 3):
@@ -403,26 +408,28 @@ class TestMembers(checks.Checked):
                 time.sleep(0.2)
                 lra = group.begin(home)
                 late.append(group.all_come_to(lra, "Active") or SLOW)
-            self.check(f"what node {home} begins is shown by all ({in_ms(max(late))})", max(late) < 5, late)
+            self.check(f"all show what node {home} begins ({in_ms(max(late))})", max(late) < 5, late)
         group.kill(1)
         group.start(1, word="1-2")
-        self.check("after a kill -9 both are there", group.status(1, lra) == group.status(2, lra) == "Active")
+        self.check("after a kill -9 both show the LRA", group.status(1, lra) == group.status(2, lra) == "Active")
         mine = group.begin(2)
         self.check("and go on", group.all_come_to(mine, "Active") is not None)
         ended = group.end()
         self.check("both processes end", ended == [0, 0], ended)
 
     def test_older(self) -> None:
-        """A node that is started again over an older copy of its journal takes its own facts back before it takes its
-        first command. It waits for that a second at most, so a try in which this machine was slower is made again."""
+        """A node that is started over an older copy of its journal takes its own facts back before it executes its
+        first command. It waits at most a second for that, so an attempt in which this machine was slower is
+        repeated."""
         group = self.group(3).start()
         first = group.begin(2)
-        self.check("what node 2 begins is known", group.all_come_to(first, "Active") is not None)
+        self.check("all know what node 2 begins", group.all_come_to(first, "Active") is not None)
         group.end(2)
         shutil.copytree(f"{self.folder}/2", f"{self.folder}/copy")
         group.start(2)
         later = [group.begin(2) for _ in range(3)]
-        self.check("and what it begins then", all(group.all_come_to(lra, "Active") is not None for lra in later))
+        self.check("and what it begins after a restart",
+                   all(group.all_come_to(lra, "Active") is not None for lra in later))
         known = {first, *later}
         for _ in range(5):
             group.end(2)
@@ -437,24 +444,27 @@ class TestMembers(checks.Checked):
         if took >= 0.9:
             group.end()
             self.skipTest("this machine is too slow for the rest")
-        self.check(f"over an older journal what is begun at once has a new number ({in_ms(took)})", new not in known,
+        self.check(f"over an older journal an LRA that is begun at once gets a new number ({in_ms(took)})",
+                   new not in known,
                    (new, known))
         line = "node 2: node %d has more facts of this node: the journal here is an older copy"
         seen = comes_to(30, lambda: any(line % node in group.lines(2) for node in (1, 3)))
-        self.check("it tells that its journal is older", seen, group.log(2))
-        self.check("it has taken back what the others know",
+        self.check("it logs that its journal is older", seen, group.log(2))
+        self.check("it has taken back what the others knew",
                    all(group.comes_to(2, lra, "Active") is not None for lra in known))
-        self.check("all show the new one", group.all_come_to(new, "Active") is not None)
-        self.check("and are alike", comes_to(30, group.are_alike), [group.shown(node) for node in (1, 2, 3)])
+        self.check("all show the new LRA", group.all_come_to(new, "Active") is not None)
+        self.check("all are alike", comes_to(30, group.are_alike), [group.shown(node) for node in (1, 2, 3)])
         lines = group.lines(2)
-        self.check("and nothing else, nor twice", set(lines) <= {line % 1, line % 3} and len(lines) == len(set(lines)),
+        self.check("it logs nothing else, and nothing twice",
+                   set(lines) <= {line % 1, line % 3} and len(lines) == len(set(lines)),
                    group.log(2))
         ended = group.end()
         self.check("all end", ended == [0, 0, 0], ended)
 
     def test_strange(self) -> None:
-        """Beside two nodes: one that takes connections and never answers, one that no name leads to, one that answers
-        with other bytes, one that sends no HTTP, and one that counts another number of nodes."""
+        """Two nodes work although other addresses are strange: one accepts connections and never answers, one doesn't
+        resolve, one answers with other bytes, one doesn't speak HTTP, and one is configured with another number of
+        nodes."""
         group, random_bytes = self.group(7, kind=Strange), random.Random(60).randbytes
         bodies = (b"", b"\0" * 64, b"<html></html>", random_bytes(200), random_bytes(60_000))
         others = [with_length(body) for body in bodies]
@@ -467,34 +477,34 @@ class TestMembers(checks.Checked):
         group.run(7, word="1")
         group.start(1, 2)
         is_begun = comes_to(SLOW, lambda: is_open(group.ports[6])) and group.begin(7).startswith("0000")
-        self.check("one counts two nodes, and begins", is_begun)
+        self.check("a node that is configured with two nodes begins an LRA", is_begun)
         begun, late = [], []
         for _ in range(10):
             time.sleep(0.2)
             begun.append(group.begin(1))
             late.append(group.comes_to(2, begun[-1], "Active") or SLOW)
-        self.check(f"they hold up no other ({in_ms(max(late))} at most)", max(late) < 5, late)
+        self.check(f"the strange ones delay no other node ({in_ms(max(late))} at most)", max(late) < 5, late)
         misled = "isn't at its address: another node answers there, or one of another group"
         how = {**dict.fromkeys((3, 5, 6), "doesn't answer with a frame"), 4: "can't be reached", 7: misled}
         for node in (1, 2):
             wanted = {f"node {node}: node {other} {what}" for other, what in how.items()}
             is_told = comes_to(SLOW, lambda: set(group.lines(node)) >= wanted)
-            self.check(f"node {node} tells of each, and nothing else",
+            self.check(f"node {node} logs each of them, and nothing else",
                        is_told and sorted(group.lines(node)) == sorted(wanted), group.log(node))
         is_told = comes_to(30, lambda: group.lines(7) == [f"node 1: node 2 {misled}"])
-        self.check("and so does the one that counts another number of them", is_told, group.log(7))
-        self.check("nothing of theirs is taken",
+        self.check("and so does the node that is configured with two nodes", is_told, group.log(7))
+        self.check("nothing is taken from the strange ones",
                    [group.shown(node) for node in (1, 2)] == [dict.fromkeys(begun, "Active")] * 2, group.shown(1))
-        self.check("nor of them", len(group.shown(7)) == 1, group.shown(7))
+        self.check("the node that is configured with two nodes takes nothing", len(group.shown(7)) == 1, group.shown(7))
         began = time.monotonic()
         ended = group.end()
-        self.check(f"all end meanwhile ({time.monotonic() - began:.1f} s)", ended == [0, 0, 0], ended)
+        self.check(f"all end in spite of them ({time.monotonic() - began:.1f} s)", ended == [0, 0, 0], ended)
         for listener in listeners:
             listener.close()
 
     def test_kills(self) -> None:
-        """Nodes are killed amid a load, one or all, again and again: nothing answered is lost, and at the end all are
-        alike."""
+        """Nodes are killed under load, one or all, again and again: nothing that was answered is lost, and at the end
+        all nodes are alike."""
         group, dice = self.group(3).start(), random.Random(60)
         for i in range(self.kills):
             which = ((1,), (2,), (1, 2, 3), (3,), (1, 3))[i % 5]
@@ -503,56 +513,57 @@ class TestMembers(checks.Checked):
             self.check(f"{kill}: nothing is lost, all are alike ({what})", not wrong, wrong)
             left = purge_all(group)
             is_purged = not left and comes_to(SLOW, lambda: not any(map(group.shown, (1, 2, 3))))
-            self.check("and all is purged everywhere", is_purged, left)
+            self.check("everything is purged at all nodes", is_purged, left)
         ended = group.end()
         self.check("all end", ended == [0, 0, 0], ended)
         for number in (1, 2, 3):
             self.is_whole(f"{self.folder}/{number}/node-{number}.db", number)
 
     def is_purged_when_told(self, group: Group, part: Participant) -> None:
-        """One that a listener is still to hear of stays, and goes as soon as it has heard. Purges are tried 0, 1, 3, 7
-        and 15 seconds behind the end, and the listener is called after as long pauses."""
+        """An LRA whose listener isn't notified yet stays, and goes as soon as it is. Purges are tried 0, 1, 3, 7 and 15
+        seconds after the end, and the pauses between calls to the listener are as long."""
         part.answers["/never"] = 503
         waits = group.begin(1)
         group.join(1, waits, after=f"{part.url}/never")
         group.finish(1, waits)
         comes_to(SLOW, lambda: len(part.made(waits)) >= 5)  # some four seconds
-        self.check("what a listener is still to hear of stays", group.status(1, waits) == "Closed",
+        self.check("an LRA whose listener isn't notified yet stays", group.status(1, waits) == "Closed",
                    group.status(1, waits))
         part.answers["/never"] = 200
         gone = comes_to(SLOW, lambda: group.is_gone(1, waits))
         took = time.monotonic() - (part.time_of("/never", 200) or 0)
-        self.check(f"and goes as soon as it has heard ({in_ms(took)})", gone and took < 3, took)
+        self.check(f"it goes as soon as the listener is notified ({in_ms(took)})", gone and took < 3, took)
 
     def test_swept(self) -> None:
-        """What goes by itself, and what doesn't."""
+        """Some ended LRAs are purged by themselves, and others stay."""
         group, part = self.group(3, "keep=0").start(), self.participant()
         part.answers["/fails"] = 409
         failed, going_on, root = group.begin(1), group.begin(1), group.begin(1)
         group.join(1, failed, compensate=f"{part.url}/fails")
         group.finish(1, failed, "cancel")
-        self.check("one fails", group.all_come_to(failed, "FailedToCancel") is not None, group.status(1, failed))
+        self.check("one LRA fails", group.all_come_to(failed, "FailedToCancel") is not None, group.status(1, failed))
         nested = group.begin(1, parent=root)
         group.finish(1, nested)
-        self.check("one is closed in another", group.comes_to(1, nested, "Closed") is not None, group.status(1, nested))
+        self.check("one LRA is closed inside another", group.comes_to(1, nested, "Closed") is not None,
+                   group.status(1, nested))
         self.is_purged_when_told(group, part)
         lone = group.begin(1)
         group.finish(1, lone)
-        self.check("what is closed goes, at all nodes", group.all_come_to(lone, "E3 NotHeld") is not None,
+        self.check("a closed LRA goes, at all nodes", group.all_come_to(lone, "E3 NotHeld") is not None,
                    group.status(1, lone))
         statuses = [group.status(1, lra) for lra in (failed, going_on, root, nested)]
-        self.check("what failed, goes on or is nested stays",
+        self.check("LRAs that failed, are active or are nested stay",
                    statuses == ["FailedToCancel", "Active", "Active", "Closed"], statuses)
         group.finish(1, root)
-        self.check("the nested one goes with its root",
+        self.check("a nested LRA goes with its root",
                    all(group.all_come_to(lra, "E3 NotHeld") is not None for lra in (root, nested)))
         group.end(1)
         group.start(1, options=("keep-failed=300",))
-        self.check("with keep-failed alone what failed goes", group.all_come_to(failed, "E3 NotHeld") is not None,
+        self.check("with only keep-failed, a failed LRA goes", group.all_come_to(failed, "E3 NotHeld") is not None,
                    group.status(1, failed))
         self.goes_at_its_time(group)
         left = comes_to(30, lambda: [group.shown(node) for node in (1, 2, 3)] == [{going_on: "Active"}] * 3)
-        self.check("what goes on is there, and nothing else", left, [group.shown(node) for node in (1, 2, 3)])
+        self.check("only the active LRA is left", left, [group.shown(node) for node in (1, 2, 3)])
         ended = group.end()
         self.check("all end", ended == [0, 0, 0], ended)
 
@@ -565,44 +576,44 @@ class TestMembers(checks.Checked):
         group.join(1, nested, compensate=f"{part.url}/fails")
         group.join(1, root, complete=f"{part.url}/done")
         group.finish(1, nested, "cancel")
-        self.check("the nested one fails", group.all_come_to(nested, "FailedToCancel") is not None,
+        self.check("the nested LRA fails", group.all_come_to(nested, "FailedToCancel") is not None,
                    group.status(1, nested))
         began = time.monotonic()
         group.finish(1, root)
         self.check("the root is closed", group.comes_to(1, root, "Closed") is not None, group.status(1, root))
         lone = group.begin(1)
         group.finish(1, lone)
-        self.check("what is closed goes", group.comes_to(1, lone, "E3 NotHeld") is not None, group.status(1, lone))
+        self.check("a closed LRA goes", group.comes_to(1, lone, "E3 NotHeld") is not None, group.status(1, lone))
         time.sleep(1)
         statuses = [group.status(1, lra) for lra in (root, nested)]
         self.check("the tree with the failure stays", statuses == ["Closed", "FailedToCancel"], statuses)
         gone = comes_to(SLOW, lambda: group.is_gone(1, root) and group.is_gone(1, nested))
         took = time.monotonic() - began
-        self.check(f"and goes once what failed has had its time ({took:.1f} s)", gone and took > 5, statuses)
+        self.check(f"it goes once the time for failed LRAs is over ({took:.1f} s)", gone and took > 5, statuses)
         ended = group.end()
         self.check("all end", ended == [0, 0, 0], ended)
 
     def goes_at_its_time(self, group: Group) -> None:
-        """Nothing goes unasked; and the time of what has ended begins again with a start."""
+        """Nothing is purged without the option, and the retention time of an ended LRA begins again with a restart."""
         lone = group.begin(1)
         group.finish(1, lone)
         group.end(1)
         group.start(1, options=())
         time.sleep(1)
-        self.check("what is closed isn't purged unasked", group.status(1, lone) == "Closed")
+        self.check("without the option a closed LRA isn't purged", group.status(1, lone) == "Closed")
         group.end(1)
         group.start(1, options=("keep=3000",))
         time.sleep(1.5)
         group.kill(1)
         started = time.monotonic()
         group.start(1, options=("keep=3000",))
-        self.check("what has ended is there after a kill -9", group.status(1, lone) == "Closed")
+        self.check("an ended LRA is there after a kill -9", group.status(1, lone) == "Closed")
         gone = comes_to(SLOW, lambda: group.is_gone(1, lone))
         took = time.monotonic() - started
-        self.check(f"and its time begins again ({took:.1f} s)", gone and took > 3, group.status(1, lone))
+        self.check(f"its retention time begins again ({took:.1f} s)", gone and took > 3, group.status(1, lone))
 
     def test_flow(self) -> None:
-        """Many more LRAs than a home holds go through it."""
+        """Many more LRAs than a home can hold go through it."""
         group, count = self.group(3, "keep=0").start(), self.lras
         flow = Flow(group)
         began = time.monotonic()
@@ -611,18 +622,18 @@ class TestMembers(checks.Checked):
         took, refusals = time.monotonic() - began, flow.refusals
         what = f"{count:,} LRAs go through a home of 256 ({took:.1f} s, E13 {len(refusals)} times)"
         self.check(what, {code for _, code in done} == {200}, done[:3])
-        self.check("none was refused but where the home was full", set(refusals) <= {"E13 LrasFull"}, set(refusals))
+        self.check("LRAs were refused only because the home was full", set(refusals) <= {"E13 LrasFull"}, set(refusals))
         self.check("each has a number of its own", len({lra for lra, _ in done}) == count)
         are_gone = comes_to(SLOW, lambda: not any(map(group.shown, (1, 2, 3))))
-        self.check("all go, at all nodes", are_gone, group.shown(1))
-        # (what is told twice is told by a call that was cut off, at the end of a run)
+        self.check("all are purged, at all nodes", are_gone, group.shown(1))
+        # (a call that is cut off at the end of a run is made twice)
         told = [len({call.lra for call in flow.part.calls if call.path == path}) for path in ("/k", "/a", "/f")]
         self.check("each participant and listener was called", told == [count // 10] * 3, told)
         ended = group.end()
         self.check("all end", ended == [0, 0, 0], ended)
 
     def test_full(self) -> None:
-        """A home that fills up is told of, each once."""
+        """A home that fills up logs each step once."""
         group = self.group(1).start()
         wanted: list[str] = []
         for count, line in (
@@ -632,36 +643,35 @@ class TestMembers(checks.Checked):
         ):
             held = len(group.shown(1))
             time.sleep(1.5)
-            self.check(f"with {held} LRAs nothing more is told", group.lines(1) == wanted, group.log(1))
+            self.check(f"with {held} LRAs nothing more is logged", group.lines(1) == wanted, group.log(1))
             codes = [group.ask(1, "POST", "/lra", {})[0] for _ in range(count - held)]
             self.check(f"number {count} is begun" if count < 257 else "number 257 isn't begun",
                        codes[-1] == (201 if count < 257 else 503), codes)
             wanted.append(line)
-            self.check(f"it is told: {line}", comes_to(30, lambda: group.lines(1) == wanted), group.log(1))
+            self.check(f"it logs: {line}", comes_to(30, lambda: group.lines(1) == wanted), group.log(1))
         for _ in range(3):
             group.ask(1, "POST", "/lra", {})
         time.sleep(2.5)
-        self.check("each once", group.lines(1) == wanted, group.log(1))
+        self.check("it logs each line once", group.lines(1) == wanted, group.log(1))
         ended = group.end()
         self.check("it ends", ended == [0], ended)
 
     def test_misspelt(self) -> None:
-        """A member refuses bodies that are wrong, says why, and does nothing; lra_node passes over what it doesn't
-        know."""
+        """A member refuses wrong bodies, says why, and does nothing; lra_node ignores members that it doesn't know."""
         group, part = self.group(1).start(), slow_participant()
         self.refuses(group, "/lra", "POST", WRONG_BEGINS)
         self.check("no LRA is begun", group.shown(1) == {}, group.shown(1))
         lra = group.begin(1, limit=600000, parent=None)
         self.refuses(group, f"/lra/{lra}/join", "PUT", WRONG_JOINS)
         joined = group.join(1, lra, compensate=f"{part.url}/slow", complete=f"{part.url}/slow")
-        self.check("the first that joins is participant 1", joined[1].get("member") == 1, joined)
+        self.check("the first to join is participant 1", joined[1].get("member") == 1, joined)
         group.finish(1, lra, "cancel")
         self.refuses(group, f"/lra/{lra}/member/1/report", "PUT", WRONG_REPORTS)
         self.check("nothing is reported", group.status(1, lra) == "Cancelling", group.status(1, lra))
         told = group.ask(1, "PUT", f"/lra/{lra}/member/1/report", {"act": "compensate", "outcome": "done"})
-        self.check("a right report is taken", told == (204, {}) and group.comes_to(1, lra, "Cancelled"), told)
+        self.check("a correct report is accepted", told == (204, {}) and group.comes_to(1, lra, "Cancelled"), told)
         other = group.ask(1, "PUT", "/lra/x/join", {"compleet": 1})
-        self.check("of an id that is wrong it says no more", other == (400, {"refused": "E1 BadText"}), other)
+        self.check("for a wrong id it gives no reason", other == (400, {"refused": "E1 BadText"}), other)
         ended = group.end()
         self.check("it ends", ended == [0], ended)
         if not os.access(Server.program, os.X_OK):
@@ -669,22 +679,22 @@ class TestMembers(checks.Checked):
         self.passes_over()
 
     def refuses(self, group: Group, path: str, method: str, wrong: list[tuple[str, str]]) -> None:
-        """Each body is refused, with why."""
+        """Each body is refused, with the reason."""
         for body, why in wrong:
             answer = request(group.address(1), method, path, body)
             wanted = 400, f'{{"refused":"E1 BadText","why":"{why}"}}'
             self.same(f"{method} {path.split('/')[-1]} {body}", wanted, (answer.status, answer.text))
 
     def passes_over(self) -> None:
-        """A node of lra_node begins and joins as ever."""
+        """A node of lra_node accepts unknown members in a begin and a join."""
         server = self.server(1, self.folder_in("one")).wait_until_up()
         begun = server.ask(1, "POST", "/lra", {"timeLimit": 5000})
-        self.check("lra_node passes a timeLimit over", begun[0] == 201, begun)
+        self.check("lra_node ignores timeLimit", begun[0] == 201, begun)
         links = {"compensate": "http://h/c", "compleet": "http://h/k"}
         joined = server.ask(1, "PUT", f"/lra/{begun[1]['lra']}/join", links)
-        self.check("and compleet", joined[0] == 200, joined)
+        self.check("it ignores compleet", joined[0] == 200, joined)
         refused = server.ask(1, "POST", "/lra", {"limit": "5"})
-        self.check("and says no why", refused == (400, {"refused": "E1 BadText"}), refused)
+        self.check("it gives no reason", refused == (400, {"refused": "E1 BadText"}), refused)
         ended = server.end()
         self.check("it ends too", ended == (0, ""), ended)
 
@@ -705,7 +715,7 @@ class TestMembers(checks.Checked):
         is_so = alike and sorted(shown.values()) == ["Active"] * 3 + ["Cancelling"] * 3 + ["Closed"] * 3
         self.check("lra_node has nine LRAs", is_so, shown)
         ended = server.end()
-        self.check("and ends", ended == (0, ""), ended)
+        self.check("it ends", ended == (0, ""), ended)
         for node in (1, 2, 3):
             move(glob.glob(f"{one}/node-{node}.db*"), f"{self.folder}/{node}")
         self.check("all its files are moved", os.listdir(one) == [], os.listdir(one))
@@ -713,36 +723,37 @@ class TestMembers(checks.Checked):
         for node in (1, 2, 3):
             move(glob.glob(f"{self.folder}/{node}/*"), one)
         server = self.server(3, one, ports=group.ports).wait_until_up()
-        self.check("lra_node shows the same", [group.shown(node) for node in (1, 2, 3)] == [shown] * 3, group.shown(1))
+        self.check("lra_node shows the same again", [group.shown(node) for node in (1, 2, 3)] == [shown] * 3,
+                   group.shown(1))
         mine = group.begin(2)
-        self.check("and goes on", mine not in shown and group.all_come_to(mine, "Active") is not None)
+        self.check("it goes on", mine not in shown and group.all_come_to(mine, "Active") is not None)
         ended = server.end()
-        self.check("to its end", ended == (0, ""), ended)
+        self.check("it ends again", ended == (0, ""), ended)
 
     def goes_on(self, group: Group, part: Participant, shown: Shown, lras: dict[int, list[str]]) -> Shown:
-        """Members go on with what is shown, and end. What they show then."""
+        """Members go on with what is shown, and end. Returns what they show then."""
         group.start()
         self.check("three members show the same", [group.shown(node) for node in (1, 2, 3)] == [shown] * 3,
                    group.shown(1))
         part.answers["/slow"] = 200
         are_called = all(group.all_come_to(lras[node][0], "Cancelled") is not None for node in (1, 2, 3))
-        self.check("they call whom it had to", are_called)
+        self.check("they call the participants that it had to call", are_called)
         for node in (1, 2, 3):
             new = group.begin(node)
             is_so = new not in shown and group.all_come_to(new, "Active") is not None
-            self.check(f"what node {node} begins is new, and shown by all", is_so)
-            self.check("an older one can be closed", group.finish(node, lras[node][2]) == 200)
+            self.check(f"what node {node} begins is new, and all show it", is_so)
+            self.check("an older LRA can be closed", group.finish(node, lras[node][2]) == 200)
         alike = comes_to(30, group.are_alike)
         shown = group.shown(1)
         is_so = alike and sorted(shown.values()) == ["Active"] * 3 + ["Cancelled"] * 3 + ["Closed"] * 6
         self.check("all are alike", is_so, shown)
         ended = group.end()
-        self.check("and end", (ended, [group.log(node) for node in (1, 2, 3)]) == ([0, 0, 0], [""] * 3), ended)
+        self.check("all end", (ended, [group.log(node) for node in (1, 2, 3)]) == ([0, 0, 0], [""] * 3), ended)
         return shown
 
     def test_apart(self) -> None:
-        """Three members in network namespaces of their own, over a wire that takes 50 ms and loses one packet of
-        twenty."""
+        """Three members work in network namespaces of their own, over a network with 50 ms of delay that loses one
+        packet in twenty."""
         try:
             net = wire.Wire(3, delay=0.05, loss=0.05)
         except OSError as error:
@@ -759,17 +770,17 @@ class TestMembers(checks.Checked):
             began = time.monotonic()
             alike = comes_to(SLOW, group.are_alike)
             took = time.monotonic() - began
-            what = f"all are alike {took:.1f} s behind {len(load.noted)} LRAs"
-            what += f", with {len(load.told())} outcomes told at some node"
+            what = f"all are alike {took:.1f} s after {len(load.noted)} LRAs"
+            what += f", with {len(load.told())} outcomes reported at some node"
             self.check(what, alike and took < 10, took)
             gone = list(lost(group, load.noted))
-            self.check("nothing answered is lost", not gone, gone)
+            self.check("nothing that was answered is lost", not gone, gone)
             self.check(f"of {net.sent:,} packets {net.lost:,} were lost", net.lost > 0)
             ended = group.end()
             self.check("all end", ended == [0, 0, 0], ended)
 
     def test_elsewhere(self) -> None:
-        """A machine is lost under load, and its node started on another over the same volume."""
+        """A machine is lost under load, and its node is started on another one over the same volume."""
         try:
             net = wire.Wire(4, delay=0.001, loss=0)
         except OSError as error:
@@ -795,16 +806,16 @@ class TestMembers(checks.Checked):
             enters = time.monotonic() - began
             heard = group.comes_to(1, lra, "Closed")
             took = time.monotonic() - began
-            what = f"it listens in {in_ms(listens)}, has taken a command in {in_ms(enters)}"
-            self.check(f"{what}, and node 1 shows the LRA closed in {in_ms(took)}", heard is not None and took < 10)
+            what = f"it listens after {in_ms(listens)}, executes a command by {in_ms(enters)}"
+            self.check(f"{what}, and node 1 shows the LRA closed by {in_ms(took)}", heard is not None and took < 10)
             self.check("all are alike", comes_to(SLOW, group.are_alike))
             gone = list(lost(group, load.noted))
-            self.check(f"nothing of {len(load.noted)} LRAs that was answered is lost", not gone, gone)
+            self.check(f"of {len(load.noted)} LRAs nothing that was answered is lost", not gone, gone)
             ended = group.end()
             self.check("all end", ended == [0, 0, 0], ended)
 
 
-# The option that says how often a test does what it does.
+# The options that say how often a test does something.
 COUNTS = {"--kills": "kills", "--lras": "lras"}
 
 
