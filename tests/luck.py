@@ -1,12 +1,12 @@
 #!/usr/bin/env python3
-"""Gives members bad luck, and looks what comes of it: python3 tests/luck.py [PROGRAM] [--rounds N] [TEST..].
+"""Gives members bad luck, and checks the results: python3 tests/luck.py [PROGRAM] [--rounds N] [TEST..].
 
-A member starts over an older copy of its journal, beside others that start late, behind a slow line or a line that
-loses the first tries; a journal's file goes away, or an older one comes in its place; a disk hangs; clients read
-nothing, send slowly, or say nothing; hosts of participants hang; a name has an address that is silent; addresses lead
-to the wrong node. PROGRAM is crates/lra_node/out/lra_node, or --unproved (tools/unproved.py). In restored members
-start N times, 10 by default. Each check prints a line; the status is 1 where one fails. Standard library alone, some
-three minutes; a compiler for C is wanted for hangs, and root for names: without them these are skipped."""
+A member starts over an older copy of its journal, beside others that start late, or behind a line that is slow or loses
+the first attempts. A journal's file goes away, or an older one takes its place. A disk hangs. Clients read nothing,
+send slowly, or send nothing. Participants' hosts hang. A name has an address that doesn't answer. Addresses lead to the
+wrong node. PROGRAM is crates/lra_node/out/lra_node, or --unproved (tools/unproved.py). In restored, members start N
+times, 10 by default. Each check prints a line. Exits with 1 if a check fails. Uses only the standard library; takes
+some three minutes. hangs needs a C compiler and names needs root; they are skipped without."""
 import contextlib
 import glob
 import os
@@ -31,7 +31,7 @@ from tools.ports import HOST, free_row
 from tools.relays import Relayed
 
 PULL = b"POST /peer/pull HTTP/1.1\r\nHost: p\r\nContent-Length: 9\r\n\r\n\x01" + bytes(8)
-# Holds every write to a disk as long as a file is there.
+# Holds every write to a disk as long as a file exists.
 HOLDER = """
 #define _GNU_SOURCE
 #include <dlfcn.h>
@@ -48,7 +48,7 @@ def files_of(folder: str) -> list[str]:
 
 
 def copy(source: str, target: str) -> None:
-    """Puts the files of a journal in place of those of another."""
+    """Replaces the files of one journal by those of another."""
     os.makedirs(target, exist_ok=True)
     for file in files_of(target):
         os.remove(file)
@@ -57,12 +57,12 @@ def copy(source: str, target: str) -> None:
 
 
 def hanging_hosts(count: int) -> list[socket.socket]:
-    """Hosts that take a connection and never answer."""
+    """Returns hosts that accept a connection and never answer."""
     return [socket.create_server((HOST, 0), backlog=16) for _ in range(count)]
 
 
 def silent_server(port: int) -> list[socket.socket]:
-    """A port at another loopback address whose queue is full, so that a try to connect isn't answered."""
+    """Returns a port at another loopback address whose queue is full, so that attempts to connect get no answer."""
     server = socket.socket()
     server.bind(("127.0.0.2", port))
     server.listen(0)
@@ -86,7 +86,8 @@ class TestLuck(checks.Checked):
         return self.group(count, *options, kind=Relayed)
 
     def takes(self, group: Group, node: int, seconds: float = 30) -> str | None:
-        """The LRA that is begun at a node, once it enters commands; none where it doesn't within a time."""
+        """Begins an LRA at a node once it accepts commands, and returns the LRA, or `None` if the node doesn't accept
+        any in time."""
         found: list[str] = []
 
         def begins() -> bool:
@@ -101,8 +102,8 @@ class TestLuck(checks.Checked):
     # ---- restores
 
     def test_restored(self) -> None:
-        """Three members start together, one over an older copy of its journal, in any order, behind a line that loses
-        the first tries, or a slow one."""
+        """Three members start together, one of them over an older copy of its journal, in any order, behind a line that
+        is slow or loses the first attempts."""
         group, dice = self.behind(3), random.Random(78)
         group.start()
         backup = f"{self.folder}/backup"
@@ -112,7 +113,7 @@ class TestLuck(checks.Checked):
             copy(f"{self.folder}/2", backup)
             group.start(2)
             known = [self.takes(group, 2) for _ in range(3)]
-            self.check(f"round {turn}: what node 2 begins is shown by all",
+            self.check(f"round {turn}: all show what node 2 begins",
                        all(lra and group.all_come_to(lra, "Active") is not None for lra in known), known)
             group.kill(1, 2, 3)
             copy(backup, f"{self.folder}/2")
@@ -133,12 +134,12 @@ class TestLuck(checks.Checked):
             for one in [lra, *known]:
                 group.finish(2, one) if one else None
                 comes_to(10, lambda one=one: group.purge(2, one)[0] in (204, 410))
-        self.check(f"of {self.rounds} starts over an older journal none gives a number twice", not twice, twice)
-        self.check("and all nodes show the same behind each", not strange, strange)
+        self.check(f"none of {self.rounds} starts over an older journal assigns a number twice", not twice, twice)
+        self.check("all nodes show the same after each start", not strange, strange)
 
     def test_anew(self) -> None:
-        """A member over an older journal that is told so waits for all others, however late they are; one that isn't
-        told waits as long as somebody is known to have more of its facts."""
+        """A member over an older journal that is started with `anew` waits for all others, however late they are.
+        Without `anew` it waits as long as some node is known to have more of its facts."""
         group = self.members(3)
         group.start()
         group.end(2)
@@ -146,30 +147,30 @@ class TestLuck(checks.Checked):
         copy(f"{self.folder}/2", backup)
         group.start(2)
         known = [self.takes(group, 2) for _ in range(3)]
-        self.check("what it begins is shown by all",
+        self.check("all show what it begins",
                    all(lra and group.all_come_to(lra, "Active") is not None for lra in known), known)
         group.kill(1, 2, 3)
         copy(backup, f"{self.folder}/2")
         group.start(2, options=["anew"])
         time.sleep(2.5)
-        self.check("alone it takes no command", self.takes(group, 2, 1) is None)
-        self.check("it says why", group.told(2, "/ready") == (503, {"ready": False, "cause": "behind"}),
+        self.check("alone it accepts no command", self.takes(group, 2, 1) is None)
+        self.check("it gives the reason", group.told(2, "/ready") == (503, {"ready": False, "cause": "behind"}),
                    group.told(2, "/ready"))
-        self.check("it answers questions", request_json(group, 2, "GET", "/lra")[0] == 200)
+        self.check("it answers reads", request_json(group, 2, "GET", "/lra")[0] == 200)
         began = time.monotonic()
         refused = [request_json(group, 2, "POST", "/lra")[0] for _ in range(8)]
-        self.check("and refuses commands at once", refused == [503] * 8 and time.monotonic() - began < 2, refused)
+        self.check("it refuses commands at once", refused == [503] * 8 and time.monotonic() - began < 2, refused)
         group.start(1)
         time.sleep(1.5)
-        self.check("beside one of two it takes none either", self.takes(group, 2, 1) is None)
+        self.check("with one of the two others it accepts none either", self.takes(group, 2, 1) is None)
         group.start(3)
         lra = self.takes(group, 2)
-        self.check("beside both it does, with a new number", lra and lra not in known, (lra, known))
+        self.check("with both it begins an LRA with a new number", lra and lra not in known, (lra, known))
         self.check("all show the same", comes_to(30, group.are_alike))
-        self.check("and it is ready", comes_to(10, lambda: group.at(2, "/ready").status == 200))
+        self.check("it is ready", comes_to(10, lambda: group.at(2, "/ready").status == 200))
 
     def test_together(self) -> None:
-        """Three members start together under clients that retry, one over an older copy of its journal."""
+        """Three members start together under clients that retry, one of them over an older copy of its journal."""
         group = self.members(3)
         group.start()
         twice = []
@@ -181,7 +182,7 @@ class TestLuck(checks.Checked):
             copy(f"{self.folder}/1", backup)
             group.start(1)
             known = [self.takes(group, 1) for _ in range(5)]
-            self.check(f"round {turn}: what node 1 begins is shown by all",
+            self.check(f"round {turn}: all show what node 1 begins",
                        all(lra and group.all_come_to(lra, "Active") is not None for lra in known), known)
             group.kill(1, 2, 3)
             copy(backup, f"{self.folder}/1")
@@ -193,16 +194,16 @@ class TestLuck(checks.Checked):
             again = set(known) & set(clients.begun[1])
             if again:
                 twice.append((turn, again))
-            self.check(f"round {turn}: it begins {len(clients.begun[1])} LRAs and shows what it had begun",
+            self.check(f"round {turn}: it begins {len(clients.begun[1])} LRAs and shows those that it had begun",
                        comes_to(SLOW, lambda: all(group.status(1, lra or "") == "Active" for lra in known)), known)
             for number in (1, 2, 3):
                 for lra in clients.begun[number] + (known if number == 1 else []):
                     group.finish(number, lra or "")
                     group.purge(number, lra or "")
-        self.check("no number is given twice", not twice, twice)
+        self.check("no number is assigned twice", not twice, twice)
 
     def test_starved(self) -> None:
-        """Sixteen commands wait for others that aren't there, while questions are asked."""
+        """Sixteen commands wait for other nodes that are down, while reads are made."""
         group = self.members(3)
         group.run(1)
         comes_to(SLOW, lambda: is_up(group.ports[0]))
@@ -212,14 +213,14 @@ class TestLuck(checks.Checked):
         slowest = slowest_of(lambda: request(group.address(1), "GET", "/lra"), 0.7)
         for command in commands:
             command.join()
-        self.check(f"a question takes {slowest:.2f} s at most", slowest < 0.5)
+        self.check(f"a read takes at most {slowest:.2f} s", slowest < 0.5)
 
     def takes_once(self, group: Group) -> None:
         with contextlib.suppress(OSError, ValueError):
             request(group.address(1), "POST", "/lra")
 
     def test_claimed(self) -> None:
-        """Somebody asks, while a member starts, as a node that has more facts of it than there ever were."""
+        """While a member starts, a pull claims that its node has more of the member's facts than there ever were."""
         group = self.members(3)
         group.run(1)
         comes_to(SLOW, lambda: is_up(group.ports[0]))
@@ -229,20 +230,20 @@ class TestLuck(checks.Checked):
             exchange(group.address(1), pull)
         time.sleep(1.5)
         seen = group.told(1, "/ready")
-        self.check("it waits for them", seen == (503, {"ready": False, "cause": "behind"}), seen)
+        self.check("it waits for those facts", seen == (503, {"ready": False, "cause": "behind"}), seen)
         line = f"node 1: node 2 claims to have {1 << 40} facts of this node, more than the journal here has"
         told = comes_to(15, lambda: any(one.startswith(line) for one in group.lines(1)))
-        self.check("it says for whom", told, group.log(1))
+        self.check("it logs which node it waits for", told, group.log(1))
         group.start(2)
-        self.check("and enters once that node has answered", self.takes(group, 1) is not None, group.log(1))
+        self.check("it accepts a command once that node has answered", self.takes(group, 1) is not None, group.log(1))
 
     def failures(self, group: Operated, node: int) -> int:
-        """How often the journal of a node has failed."""
+        """Returns how often the journal of a node has failed."""
         return int(group.samples(node)[("lra_journal_failures_total",)])
 
     def test_owed(self) -> None:
-        """A member starts over an older journal, with `anew`, while another was told of its newest facts and can't
-        store them yet."""
+        """A member starts over an older journal, with `anew`, while another node has received its newest facts but
+        can't store them yet."""
         group = self.members(2)
         group.start()
         group.end(2)
@@ -250,30 +251,31 @@ class TestLuck(checks.Checked):
         copy(f"{self.folder}/2", backup)
         group.start(2)
         first = self.takes(group, 2)
-        self.check("what it begins is shown by both",
+        self.check("both show what it begins",
                    first and group.all_come_to(first, "Active", (1, 2)) is not None, first)
         limit_files(group.processes[1], 1)
         second = self.takes(group, 2)
-        self.check("the other can't store that", comes_to(30, lambda: self.failures(group, 1) >= 3))
+        self.check("the other node can't store the next fact", comes_to(30, lambda: self.failures(group, 1) >= 3))
         group.kill(2)
         copy(backup, f"{self.folder}/2")
         before = self.failures(group, 1)
-        self.check("it keeps that, and tries again", comes_to(30, lambda: self.failures(group, 1) >= before + 2))
+        self.check("it keeps the fact, and tries again", comes_to(30, lambda: self.failures(group, 1) >= before + 2))
         group.start(2, options=["anew"])
         time.sleep(0.2)
         seen = group.told(2, "/ready")
-        self.check("it waits for what the other was told", seen == (503, {"ready": False, "cause": "behind"}), seen)
+        self.check("it waits for the fact that the other received", seen == (503, {"ready": False, "cause": "behind"}),
+                   seen)
         limit_files(group.processes[1], -1)
         lra = self.takes(group, 2)
-        self.check("then it begins one with a new number", lra and lra not in (first, second), (lra, first, second))
-        self.check("and has back what it began", comes_to(30, lambda: {first, second} <= set(group.shown(2))),
+        self.check("then it begins an LRA with a new number", lra and lra not in (first, second), (lra, first, second))
+        self.check("it has taken back what it began", comes_to(30, lambda: {first, second} <= set(group.shown(2))),
                    group.shown(2))
         self.check("both show the same", comes_to(30, lambda: group.are_alike((1, 2))))
 
     # ---- disks
 
     def test_missing(self) -> None:
-        """The file of a journal goes away, and an older one comes in its place, while its node runs."""
+        """While a node runs, its journal's file goes away, and an older one takes its place."""
         group = self.members(1)
         group.start()
         group.end(1)
@@ -287,20 +289,20 @@ class TestLuck(checks.Checked):
         request_json(group, 1, "POST", "/lra")
         limit_files(group.processes[1], -1)
         line = "node 1: can't open its journal again yet: the file is gone"
-        self.check("it tells that the file is gone", comes_to(10, lambda: line in group.lines(1)), group.log(1))
+        self.check("it logs that the file is gone", comes_to(10, lambda: line in group.lines(1)), group.log(1))
         time.sleep(1.5)
-        self.check("it makes none", os.listdir(folder) == [], os.listdir(folder))
+        self.check("it creates no file", os.listdir(folder) == [], os.listdir(folder))
         seen = request_json(group, 1, "POST", "/lra")
-        self.check("and takes no command", seen == (503, {"refused": "E19 Stopped"}), seen)
+        self.check("it accepts no command", seen == (503, {"refused": "E19 Stopped"}), seen)
         copy(backup, folder)
         line = "node 1: can't open its journal again yet: the file has fewer facts than the one before"
-        self.check("it takes no older file", comes_to(10, lambda: line in group.lines(1)), group.log(1))
+        self.check("it doesn't use an older file", comes_to(10, lambda: line in group.lines(1)), group.log(1))
         shutil.rmtree(folder)
         shutil.move(away, folder)
         lra = self.takes(group, 1)
         self.check("with the file back it goes on", lra and lra not in lras, (lra, lras))
         shown = group.shown(1)
-        self.check("and has all that was answered", all(one in shown for one in lras), shown)
+        self.check("it has everything that was answered", all(one in shown for one in lras), shown)
         self.same("it ends", [0], group.end(1))
 
     def test_hangs(self) -> None:
@@ -325,22 +327,21 @@ class TestLuck(checks.Checked):
         waits.start()
         time.sleep(0.5)
         if not waits.is_alive():
-            self.skipTest("the holder holds nothing")
+            self.skipTest("the preloaded library holds no write")
         seen = (503, {"ready": False, "cause": "disk"})
         self.check("it says that its disk hangs", comes_to(9, lambda: group.told(1, "/ready") == seen),
                    group.told(1, "/ready"))
         took = self.slowest_health(group)
-        self.check(f"beside questions that wait for it it says after {took:.1f} s at most that it is well", took < 3)
+        self.check(f"while reads wait for the disk, /health answers within {took:.1f} s", took < 3)
         hangs = re.compile(r"node 1: a call has waited \d+ s for the journal: the disk is slow, or hangs")
-        self.check("it tells it", comes_to(5, lambda: any(map(hangs.fullmatch, group.lines(1)))), group.log(1))
+        self.check("it logs that", comes_to(5, lambda: any(map(hangs.fullmatch, group.lines(1)))), group.log(1))
         os.remove(flag)
         self.check("it goes on", comes_to(10, lambda: group.at(1, "/ready").status == 200))
         again = re.compile(r"node 1: the journal answers again, after \d+ s")
-        self.check("and tells that", comes_to(5, lambda: any(map(again.fullmatch, group.lines(1)))), group.log(1))
+        self.check("it logs that", comes_to(5, lambda: any(map(again.fullmatch, group.lines(1)))), group.log(1))
 
     def slowest_health(self, group: Operated) -> float:
-        """How long it takes at most, while four operators ask a question each again and again, until it is told that
-        the node is well."""
+        """Returns the longest time that /health takes while four operators keep reading."""
         ended, times = threading.Event(), []
 
         def question() -> None:
@@ -360,13 +361,13 @@ class TestLuck(checks.Checked):
         ended.set()
         return max(times)
 
-    # ---- whoever is slow
+    # ---- slow peers, clients and participants
 
     def test_readers(self) -> None:
         """Twenty-four clients read nothing of a long frame."""
         group, link = self.members(1), f"http://{HOST}:9/" + "c" * 100
         group.start()
-        # (a program that isn't proved takes minutes to fill a home)
+        # (an unproved program takes minutes to fill a home)
         is_slow = "unproved" in Group.program
         for _ in range(8 if is_slow else 256):
             lra = group.begin(1)
@@ -380,17 +381,17 @@ class TestLuck(checks.Checked):
             line.sendall(PULL)
             lines.append(line)
         slowest = slowest_of(lambda: group.ask(1, "GET", f"/lra/{lra}"), 12)
-        self.check(f"beside 24 that read nothing of a frame a question takes {slowest:.2f} s at most", slowest < 1)
+        self.check(f"beside 24 clients that read nothing of a frame, a read takes at most {slowest:.2f} s", slowest < 1)
         for line in lines:
             line.close()
         whole = exchange(group.address(1), PULL.replace(b"\r\n\r\n", b"\r\nConnection: close\r\n\r\n", 1))
         stated = int(re.search(rb"Content-Length: (\d+)", whole)[1])  # type: ignore[index]
         came = len(whole) - whole.index(b"\r\n\r\n") - 4
         is_so = stated == came and (is_slow or came > 4_000_000)
-        self.check(f"a frame of {stated:,} bytes comes whole to one who reads", is_so, came)
+        self.check(f"a frame of {stated:,} bytes comes complete to a client that reads", is_so, came)
 
     def test_heads(self) -> None:
-        """Twenty clients send long requests slowly, and others whole ones of up to 16 KB."""
+        """Twenty clients send long requests slowly, while others send complete ones of up to 16 KB."""
         group = self.members(1)
         group.start()
         lra = group.begin(1)
@@ -439,23 +440,23 @@ class TestLuck(checks.Checked):
         group.finish(1, lra)
         called = comes_to(60, lambda: len(part.made(lra)) == 6)
         took = time.monotonic() - began
-        self.check(f"beside 96 hosts that hang six participants of another are called in {took:.1f} s",
+        self.check(f"beside 96 hosts that hang, six participants of another host are called in {took:.1f} s",
                    called and took < 15, part.made(lra))
 
     def test_silent(self) -> None:
-        """Twenty-four connections to the operators' port say nothing, and others read nothing."""
+        """Twenty-four connections to the operators' port send nothing, and then read nothing."""
         group = self.members(1)
         group.start()
         lines = [socket.create_connection((HOST, group.doors[0])) for _ in range(24)]
         slowest = slowest_of(lambda: group.at(1, "/health"), 2)
-        self.check(f"beside 24 silent ones /health takes {slowest:.2f} s at most", slowest < 0.5)
+        self.check(f"beside 24 silent connections /health takes at most {slowest:.2f} s", slowest < 0.5)
         for line in lines:
             line.sendall(b"GET /metrics HTTP/1.1\r\nHost: localhost\r\n\r\n")
         slowest = slowest_of(lambda: group.at(1, "/metrics"), 2)
-        self.check(f"beside 24 that don't read it takes {slowest:.2f} s", slowest < 0.5)
+        self.check(f"beside 24 that don't read, /metrics takes at most {slowest:.2f} s", slowest < 0.5)
 
     def test_turned(self) -> None:
-        """Ninety-six hosts refuse at once and then hang; and one that answers slowly stands beside ten that hang."""
+        """Ninety-six hosts refuse at once and later hang."""
         group, part = self.members(1), self.participant()
         group.start()
         refusing = Turning(96)
@@ -489,7 +490,7 @@ class TestLuck(checks.Checked):
         self.check_calls(group, part, "ten hosts that hang", 4, 40)
 
     def check_calls(self, group: Group, part: Participant, what: str, count: int, limit: float) -> None:
-        """Whether so many participants of one host are called in time beside others."""
+        """Checks that a number of participants of one host are called in time beside others."""
         lra = group.begin(1)
         for place in range(count):
             group.join(1, lra, compensate=part.url, complete=f"{part.url}/{place}")
@@ -497,7 +498,7 @@ class TestLuck(checks.Checked):
         group.finish(1, lra)
         called = comes_to(2 * limit, lambda: len(part.made(lra)) == count)
         took = time.monotonic() - began
-        self.check(f"beside {what} {count} participants of another are called in {took:.1f} s",
+        self.check(f"beside {what}, {count} participants of another host are called in {took:.1f} s",
                    called and took < limit, part.made(lra))
 
     # ---- lines and names
@@ -514,12 +515,12 @@ class TestLuck(checks.Checked):
         group.start(2)
         began = time.monotonic()
         took = group.comes_to(2, lra, "Active", SLOW)
-        self.check(f"it is taken, after {took or 0:.0f} s", took is not None and time.monotonic() - began > 12, took)
+        self.check(f"it is applied, after {took or 0:.0f} s", took is not None and time.monotonic() - began > 12, took)
 
     def test_names(self) -> None:
-        """A name has two addresses, of which the first is silent."""
+        """A name has two addresses, and the first doesn't answer."""
         if os.geteuid() or not shutil.which("unshare"):
-            self.skipTest("this user may not have a table of names of its own")
+            self.skipTest("this user may not have a hosts file of its own")
         part = self.participant()
         silent = silent_server(part.port)
         hosts = f"{self.folder}/hosts"
@@ -532,7 +533,7 @@ class TestLuck(checks.Checked):
         self.addCleanup(process.kill)
         comes_to(SLOW, lambda: process.poll() is not None or is_up(port))
         if process.poll() is not None:
-            self.skipTest("this user may not mount a table of names")
+            self.skipTest("this user may not mount a hosts file")
         lra = request((HOST, port), "POST", "/lra").json()["lra"]
         links = f'{{"compensate":"http://twofold:{part.port}/c"}}'
         request((HOST, port), "PUT", f"/lra/{lra}/join", links)
@@ -540,14 +541,14 @@ class TestLuck(checks.Checked):
         request((HOST, port), "PUT", f"/lra/{lra}/cancel")
         called = comes_to(20, lambda: bool(part.made(lra)))
         took = time.monotonic() - began
-        self.check(f"the participant is called at the second, after {took:.1f} s", called and took < 5, took)
+        self.check(f"the participant is called at the second address, after {took:.1f} s", called and took < 5, took)
         for line in silent:
             line.close()
 
     # ---- operators
 
     def test_told(self) -> None:
-        """What an operator says of a listener counts at once, at whatever node it is said."""
+        """An operator's report for a listener counts at once, at whatever node it is made."""
         group, part = self.members(2, "keep=0"), self.participant(status=503)
         group.start()
 
@@ -556,7 +557,7 @@ class TestLuck(checks.Checked):
             group.join(1, lra, compensate=f"{part.url}/c", after=f"{part.url}/{lra}")
             part.answers["/c"] = 200
             group.finish(1, lra, "cancel")
-            self.check("the listener is called in vain",
+            self.check("calls to the listener fail",
                        comes_to(20, lambda: any(call["lra"] == lra for call in group.calls(1))), group.calls(1))
             return lra
 
@@ -564,19 +565,19 @@ class TestLuck(checks.Checked):
             lra = waiting()
             time.sleep(3)
             seen = group.at(node, f"/lra/{lra}/member/1/told", "PUT").status
-            self.check(f"it is said at node {node} that it was told", seen == 204, seen)
+            self.check(f"node {node} accepts the report that the listener was notified", seen == 204, seen)
             took = time.monotonic()
             gone = comes_to(20, lambda: group.is_gone(1, lra))
             took = time.monotonic() - took
             self.check(f"its LRA is purged {took:.1f} s later", gone and took < 3, group.status(1, lra))
             time.sleep(1)
             called = len(part.made(lra))
-            self.check("it isn't listed", not group.calls(1), group.calls(1))
+            self.check("the listener isn't listed any more", not group.calls(1), group.calls(1))
             time.sleep(4)
-            self.check("nor called again", len(part.made(lra)) == called, part.made(lra))
+            self.check("the listener isn't called again", len(part.made(lra)) == called, part.made(lra))
 
     def test_vain(self) -> None:
-        """Metrics know who is called in vain, whatever was reported of others."""
+        """Metrics count the participants whose calls fail, whatever was reported for others."""
         group = self.members(1)
         group.start()
         gone = free_row(1)[0]
@@ -591,25 +592,26 @@ class TestLuck(checks.Checked):
         def vain() -> float:
             return group.samples(1)[("lra_callbacks_vain",)]
 
-        self.check("288 are called in vain", comes_to(60, lambda: vain() == 288), vain())
-        self.check("256 of them are told", len(group.calls(1)) == 256, len(group.calls(1)))
+        self.check("calls to 288 participants fail", comes_to(60, lambda: vain() == 288), vain())
+        self.check("256 of them are listed", len(group.calls(1)) == 256, len(group.calls(1)))
         report = '{"act":"complete","outcome":"done"}'
         for member in (1, 2, 3):
             request((HOST, group.doors[0]), "PUT", f"/lra/{lras[0]}/member/{member}/report", report)
-        self.check("with three reported still 256", comes_to(2, lambda: vain() == 285) and len(group.calls(1)) == 256,
+        self.check("after three reports still 256 are listed",
+                   comes_to(2, lambda: vain() == 285) and len(group.calls(1)) == 256,
                    (vain(), len(group.calls(1))))
         for lra in lras:
             for member in range(1, 33):
                 request((HOST, group.doors[0]), "PUT", f"/lra/{lra}/member/{member}/report", report)
-        self.check("with all reported nobody is", comes_to(5, lambda: vain() == 0), vain())
+        self.check("after all reports no calls fail", comes_to(5, lambda: vain() == 0), vain())
         lra = group.begin(1)
         group.join(1, lra, compensate=f"http://{HOST}:{gone}/one")
         group.finish(1, lra, "cancel")
-        self.check("one more is seen", comes_to(10, lambda: vain() == 1), vain())
-        self.check("and told", [call["lra"] for call in group.calls(1)] == [lra], group.calls(1))
+        self.check("one more failure is counted", comes_to(10, lambda: vain() == 1), vain())
+        self.check("it is listed", [call["lra"] for call in group.calls(1)] == [lra], group.calls(1))
 
     def test_counts(self) -> None:
-        """A sole node counts its facts, and roots alone as purged."""
+        """A sole node counts its facts, and counts only roots as purged."""
         group, part = self.members(1, "keep=0"), self.participant()
         group.start()
         root = group.begin(1)
@@ -625,7 +627,8 @@ class TestLuck(checks.Checked):
         self.check("its facts are counted", sum(facts.values()) >= 9, facts)
 
     def test_foreign(self) -> None:
-        """The operators' port is for operators: no participant's link, no stranger's page, no foreign host."""
+        """The operators' port is only for operators: it refuses a participant's link, a foreign page and a foreign host
+        name."""
         group = self.members(1, "names=ops.example,lra1")
         part = self.participant(status=503)
         group.start()
@@ -634,7 +637,7 @@ class TestLuck(checks.Checked):
         part.answers["/c"] = 200
         group.finish(1, lra, "cancel")
         self.check("it is cancelled", group.comes_to(1, lra, "Cancelled") is not None)
-        self.check("a link to the port is called in vain",
+        self.check("calls to a link that leads to the port fail",
                    comes_to(10, lambda: any(call["kind"] == "after" for call in group.calls(1))), group.calls(1))
         own = f"{HOST}:{group.doors[0]}"
         for fields, wanted in (
@@ -658,50 +661,50 @@ class TestLuck(checks.Checked):
             ({"Origin": "https://lra2"}, 403),
         ):
             seen = request((HOST, group.doors[0]), "GET", "/health", None, fields)
-            self.check(f"asked with {fields} it answers {wanted}", seen.status == wanted, seen)
+            self.check(f"a request with {fields} is answered {wanted}", seen.status == wanted, seen)
         seen = request((HOST, group.doors[0]), "POST", "/lra", "", {"Origin": "http://evil.example"})
-        self.check("a stranger's page begins no LRA", seen.status == 403 and len(group.shown(1)) == 1, seen)
+        self.check("a foreign page begins no LRA", seen.status == 403 and len(group.shown(1)) == 1, seen)
 
     # ---- peers
 
     def test_peers(self) -> None:
-        """Addresses lead to the node itself, to another number, and to another group's node."""
+        """Addresses lead to the node itself, to another number, or to another group's node."""
         group = self.group(3, "group=shop", kind=Misled)
         group.start()
         lra = group.begin(1)
         wanted = "node 1: node {} isn't at its address: another node answers there, or one of another group"
-        self.check("its own address is told",
+        self.check("its own address in another's place is logged",
                    comes_to(15, lambda: wanted.format(2) in group.lines(1)), group.log(1))
-        self.check("node 3 hears node 1", group.comes_to(3, lra, "Active") is not None)
+        self.check("node 3 receives facts of node 1", group.comes_to(3, lra, "Active") is not None)
         other = self.group_in("other", 3, "group=travel")
         other.addresses = [group.addresses[0], other.addresses[1], other.addresses[2]]
         other.start(2)
         line = "node 2: node 1 isn't at its address: another node answers there, or one of another group"
-        self.check("another group's node is told", comes_to(15, lambda: line in other.lines(2)), other.log(2))
-        self.check("and isn't taken", other.shown(2) == {}, other.shown(2))
+        self.check("a node of another group is logged", comes_to(15, lambda: line in other.lines(2)), other.log(2))
+        self.check("nothing is taken from it", other.shown(2) == {}, other.shown(2))
         plain = self.group_in("plain", 3)
         plain.addresses = [group.addresses[0], plain.addresses[1], plain.addresses[2]]
         plain.start(2)
         heard = comes_to(15, lambda: line in plain.lines(2))
-        self.check("one of a group without a name is told too", heard, plain.log(2))
-        self.check("and gets nothing", plain.shown(2) == {}, plain.shown(2))
+        self.check("a node without a group name logs it too", heard, plain.log(2))
+        self.check("it gets nothing", plain.shown(2) == {}, plain.shown(2))
         unnamed, named = self.group_in("unnamed", 3), self.group_in("named", 3, "group=food")
         unnamed.start(1)
         named.addresses = [unnamed.addresses[0], named.addresses[1], named.addresses[2]]
         named.start(2)
         unnamed.begin(1)
-        self.check("one of a named group is told of a node without a name",
+        self.check("a node of a named group logs one without a group name",
                    comes_to(15, lambda: line in named.lines(2)), named.log(2))
-        self.check("and takes nothing of it", named.shown(2) == {}, named.shown(2))
+        self.check("it takes nothing from it", named.shown(2) == {}, named.shown(2))
 
     def test_nameless(self) -> None:
-        """A member that other machines reach warns at its start unless its group has a name."""
+        """A member that other machines can reach warns at its start unless its group has a name."""
         for number, words in enumerate(([], ["group=shop"])):
             group = self.group_in(f"nameless{number}", 2, f"listen=0.0.0.0:{free_row(1)[0]}", *words)
             group.ports = [int(group.options[0].rpartition(":")[2]), group.ports[1]]
             group.start(1)
             warns = comes_to(5, lambda: any("its group has no name" in one for one in group.lines(1)))
-            self.same(f"with {' '.join(words) or 'no name'}", not words, warns)
+            self.same(f"the warning with {' '.join(words) or 'no name'}", not words, warns)
 
     def group_in(self, name: str, count: int, *options: str) -> Group:
         made = Group(count, self.folder_in(name), *options)
@@ -710,7 +713,8 @@ class TestLuck(checks.Checked):
 
 
 class Retrying:
-    """Clients that begin LRAs at each of three nodes, so many at a node, again and again while that is refused."""
+    """Clients that begin LRAs at each of three nodes, a number of them at each node, and retry when they are
+    refused."""
 
     def __init__(self, group: Group, count: int) -> None:
         self.group, self.is_over = group, False
@@ -770,7 +774,7 @@ class Turning:
 
 
 class Misled(Operated):
-    """Members of which node 1 finds itself at the address of node 2."""
+    """Members of which node 1 has its own address in the place of node 2's."""
 
     def addresses_for(self, number: int) -> list[str]:
         if number != 1:
@@ -783,13 +787,13 @@ class Misled(Operated):
 
 
 def request_json(group: Group, node: int, method: str, path: str) -> tuple[int, Json]:
-    """The status and the JSON of one answer, whatever it is."""
+    """Makes one request, and returns the status and the JSON of its answer, whatever it is."""
     answer = request(group.address(node), method, path)
     return answer.status, answer.json()
 
 
 def slowest_of(ask: Callable[[], object], seconds: float) -> float:
-    """The longest that something takes which is done again and again."""
+    """Repeats a call for some seconds, and returns the longest time that it took."""
     slowest, end = 0.0, time.monotonic() + seconds
     while time.monotonic() < end:
         began = time.monotonic()
