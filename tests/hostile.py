@@ -1,13 +1,13 @@
 #!/usr/bin/env python3
-"""Treats the built server badly, and looks whether it keeps what it answered: python3 tests/hostile.py [KILLS]
-[PROGRAM] [TEST..].
+"""Treats the built server badly, and checks that it keeps what it answered: python3 tests/hostile.py [KILLS] [PROGRAM]
+[TEST..].
 
-It is killed with kill -9 under load KILLS times, 100 by default; has a disk that is full, where this may mount one;
-journals that are read-only, another node's or torn; clients that are silent, slow, gone, send garbage, or flood a node
-with pulls; changes of run beside half requests; 2,048 participants that complete at once; a hundred thousand requests;
-and links to addresses that don't answer. PROGRAM is crates/lra_node/out/lra_node, which ./coordinator builds, or
---unproved (tools/unproved.py). Each check prints a line; the status is 1 where one fails. Standard library alone, some
-ten minutes."""
+The server is killed with kill -9 under load KILLS times, 100 by default. It meets a full disk, if this user may mount
+one; journals that are read-only, torn or another node's; clients that are silent, slow or gone, send garbage, or flood
+a node with pulls; changes of run beside half requests; 2,048 participants that complete at once; a hundred thousand
+requests; and links to addresses that don't answer. PROGRAM is crates/lra_node/out/lra_node, which ./coordinator builds,
+or --unproved (tools/unproved.py). Each check prints a line. Exits with 1 if a check fails. Uses only the standard
+library; takes some ten minutes."""
 import collections
 import contextlib
 import multiprocessing
@@ -34,16 +34,16 @@ from tools.participant import Participant
 
 NODES, NOBODY = 3, 65534
 HOMES = range(1, NODES + 1)
-# How a server ends whose first journal is refused.
+# The last output of a server that refuses its first journal.
 JOURNAL = "\njournal 1\n"
-# What may be told while a disk is full.
+# What may be logged while a disk is full.
 OF_DISK = {"E18 JournalFailed", "E19 Stopped", "can't open its journal again yet"}
 
 
 def begin_until_gone(server: Server, node: int, part: Participant, noted: Notes) -> None:
-    """Begins LRAs, joins and decides them at a node until the server is gone, and notes what is answered."""
+    """Begins LRAs, joins and decides them at a node until the server is gone, and records what is answered."""
     with contextlib.suppress(*GONE):
-        for _ in range(100):  # a home holds 256 of two clients
+        for _ in range(100):  # two clients share a home, which holds 256
             lra = server.begin(node)
             one = noted[lra] = Noted()
             for place in range(random.randrange(4)):
@@ -54,7 +54,7 @@ def begin_until_gone(server: Server, node: int, part: Participant, noted: Notes)
 
 
 def under_load(server: Server, part: Participant, noted: Notes) -> list[threading.Thread]:
-    """Two clients at each node, until the server is killed amid some answer."""
+    """Starts two clients at each node, and waits until a random moment, at which the server is then killed."""
     given = [(server, node, part, noted) for node in (*HOMES, *HOMES)]
     threads = [threading.Thread(target=begin_until_gone, args=one) for one in given]
     for thread in threads:
@@ -66,7 +66,7 @@ def under_load(server: Server, part: Participant, noted: Notes) -> list[threadin
 
 
 def settle(server: Server) -> dict[str, str]:
-    """Cancels what is still active, waits until all is ended, and gives what each LRA shows."""
+    """Cancels what is still active, waits until everything has ended, and returns what each LRA shows."""
     for lra, status in server.shown_at_home().items():
         if status == "Active":
             server.finish(home_of(lra), lra, "cancel")
@@ -75,8 +75,8 @@ def settle(server: Server) -> dict[str, str]:
 
 
 def end_of(text: bytes) -> int:
-    """The end of a file; of a log the end of the last frame that has the header's salts, since older ones may stand
-    behind it."""
+    """Returns the end of a file. In a log that is the end of the last frame with the header's salts, since older frames
+    may stand behind it."""
     if text[:3] != b"\x37\x7f\x06":
         return len(text)
     frame = 24 + int.from_bytes(text[8:12])
@@ -84,7 +84,7 @@ def end_of(text: bytes) -> int:
 
 
 def damage(path: str, count: int, how: str) -> None:
-    """Cuts off the last bytes of a file, half of it at most, or writes others there."""
+    """Cuts off the last bytes of a file, at most half of it, or overwrites them."""
     with open(path, "r+b") as file:
         end = end_of(file.read())
         count = min(count, end // 2)
@@ -96,13 +96,13 @@ def damage(path: str, count: int, how: str) -> None:
 
 
 def reset(line: socket.socket) -> None:
-    """Ends a connection without a goodbye."""
+    """Resets a connection."""
     line.setsockopt(socket.SOL_SOCKET, socket.SO_LINGER, struct.pack("ii", 1, 0))
     line.close()
 
 
 def trickle(slow: Iterable[socket.socket]) -> None:
-    """Sends a byte a second on each connection, until they are closed."""
+    """Sends a byte a second over each connection, until they are closed."""
     for byte in b"GET /lra HTTP/1.1\r\n":
         for line in slow:
             try:
@@ -113,7 +113,7 @@ def trickle(slow: Iterable[socket.socket]) -> None:
 
 
 def flood(address: tuple[str, int], seconds: float, clients: int) -> None:
-    """So many clients that each send a pull with a byte of garbage, again and again. Half of them wait for the
+    """Runs this many clients that each send a pull with a byte of garbage, again and again. Half of them wait for the
     answer."""
     poll, end = selectors.DefaultSelector(), time.monotonic() + seconds
 
@@ -142,7 +142,7 @@ def flood(address: tuple[str, int], seconds: float, clients: int) -> None:
 
 
 def halves(server: Server, until: float) -> None:
-    """Two connections that begin a request and send no more, made anew where they are closed."""
+    """Keeps two connections that begin a request and send no more, and replaces those that are closed."""
     open_ones: list[socket.socket] = []
     while time.monotonic() < until:
         open_ones = [line for line in open_ones if not is_closed(line)]
@@ -153,21 +153,21 @@ def halves(server: Server, until: float) -> None:
 
 
 def beside_halves(server: Server, seconds: float) -> float:
-    """Has two half requests stand for so long. Until when."""
+    """Keeps two half requests for some seconds in the background, and returns when they end."""
     until = time.monotonic() + seconds
     threading.Thread(target=halves, args=(server, until), daemon=True).start()
     return until
 
 
 def wait_of(server: Server, text: bytes) -> float:
-    """How long it takes until a request is answered whole."""
+    """Returns how long it takes until a request is completely answered."""
     began = time.monotonic()
     exchange(server.address(1), text)
     return time.monotonic() - began
 
 
 def ask_on(address: tuple[str, int], lra: str, count: int, wrong: list[str]) -> None:
-    """Asks for a status so many times, and notes what isn't answered as it is to be."""
+    """Requests a status a number of times, and records each wrong answer."""
     for _ in range(count):
         try:
             answer = request(address, "GET", f"/lra/{lra}")
@@ -180,53 +180,53 @@ def ask_on(address: tuple[str, int], lra: str, count: int, wrong: list[str]) -> 
 class TestHostility(checks.Checked):
     needs = (Server,)
     takes = "some ten minutes"
-    # How often it is killed.
+    # How often the server is killed.
     kills = 100
 
     def answers(self, server: Server, what: str, most: float) -> None:
-        """Others are answered meanwhile."""
+        """Checks that another client is answered meanwhile."""
         began = time.monotonic()
         status = server.ask(1, "GET", "/lra")[0]
         took = time.monotonic() - began
         self.check(f"{what} others are answered after {took:.2f} seconds", status == 200 and took < most, status)
 
     def ends(self, server: Server, what: Callable[[float], str], most: float) -> None:
-        """It ends soon."""
+        """Checks that the server ends soon."""
         began = time.monotonic()
         ended = server.end()
         took = time.monotonic() - began
         self.check(what(took), ended[0] == 0 and took < most, ended)
 
     def test_crowd(self) -> None:
-        """Clients that are silent, send garbage, are gone, don't read, or are slow."""
+        """Clients are silent, send garbage, disconnect, don't read, or are slow."""
         most = resource.getrlimit(resource.RLIMIT_NOFILE)[1]
         resource.setrlimit(resource.RLIMIT_NOFILE, (most, most))
         server = self.server(1).wait_until_up()
         fill(server, 250, 3)
         silent = [connection(server) for _ in range(min(4000, most - 200))]
         opened = time.monotonic()
-        self.answers(server, f"beside {len(silent)} connections that say nothing", 10)
+        self.answers(server, f"beside {len(silent)} connections that send nothing", 10)
         for _ in range(200):
             connection(server, random.randbytes(2000)).close()
-        self.answers(server, "behind 200 that sent garbage", 5)
+        self.answers(server, "after 200 that sent garbage", 5)
         for _ in range(200):
             reset(connection(server, b"GET /lra HTTP/1.1\r\nHo"))
-        self.answers(server, "behind 200 that were reset amid a request", 5)
+        self.answers(server, "after 200 that were reset during a request", 5)
         pull = b"POST /peer/pull HTTP/1.1\r\nHost: peer\r\nContent-Length: 9\r\n\r\n\1" + bytes(8)
         unread = [connection(server, pull, 1) for _ in range(8)]
-        self.answers(server, f"beside {len(unread)} that don't read what they asked for", 25)
+        self.answers(server, f"beside {len(unread)} that don't read their answers", 25)
         slow = [connection(server) for _ in range(8)]
         threading.Thread(target=trickle, args=(slow,), daemon=True).start()
         time.sleep(0.1)
         self.answers(server, f"beside {len(slow)} that send a byte a second", 15)
-        self.check("those are closed", all(is_closed(line, time.monotonic() + 15) for line in slow))
+        self.check("the slow ones are closed", all(is_closed(line, time.monotonic() + 15) for line in slow))
         are_closed = all(is_closed(line, opened + 45) for line in silent)
-        self.check("those that say nothing are closed after half a minute", are_closed)
+        self.check("the silent ones are closed after half a minute", are_closed)
         ended = server.end()
-        self.check("it ends with its input then, and had nothing to say", ended == (0, ""), ended)
+        self.check("it ends when its input does, and logged nothing", ended == (0, ""), ended)
 
     def is_refused(self, what: str, folder: str, nodes: int = 1, user: int | None = None) -> None:
-        """A journal with which it doesn't start."""
+        """Checks that the server doesn't start with this journal, and leaves it unchanged."""
         with open(f"{folder}/node-1.db", "rb") as file:
             before = file.read()
             server = self.server(nodes, folder, user=user)
@@ -234,10 +234,10 @@ class TestHostility(checks.Checked):
             ended = server.end()
             file.seek(0)
             is_so = ended[0] == 1 and ended[1].endswith(JOURNAL) and file.read() == before
-        self.check(f"{what} is refused, and stays as it is", is_so, ended)
+        self.check(f"{what} is refused, and left unchanged", is_so, ended)
 
     def test_wrong_journals(self) -> None:
-        """Journals that are another node's, none, or may not be written."""
+        """Journals that belong to another node, are no journals, or are read-only are refused."""
         own, pair, text = (self.folder_in(name) for name in ("own", "pair", "text"))
         for nodes, folder in ((1, own), (2, pair)):
             server = self.server(nodes, folder).wait_until_up()
@@ -248,13 +248,13 @@ class TestHostility(checks.Checked):
         self.is_refused("another node's journal", pair, 2)
         with open(f"{text}/node-1.db", "w", encoding="utf-8") as file:
             file.write("This is no database. " * 1000)
-        self.is_refused("a file that is no database", text)
+        self.is_refused("a file that isn't a database", text)
         subprocess.run(["chmod", "-R", "a=rX", self.folder], check=True)
         self.is_refused("a read-only journal", own, user=NOBODY if os.getuid() == 0 else None)
         subprocess.run(["chmod", "-R", "u+w", self.folder], check=True)
 
     def shown_of(self, file: str, count: int, how: str) -> list[str] | tuple[int, str]:
-        """What a journal shows that is damaged so: its LRAs in order, or how the program ends."""
+        """Returns what a journal with this damage shows: its LRAs in order, or how the program ends."""
         copy = f"{self.folder}/{file} {count} {how}"
         shutil.copytree(f"{self.folder}/whole", copy)
         damage(f"{copy}/{file}", count, how)
@@ -266,24 +266,24 @@ class TestHostility(checks.Checked):
         return shown
 
     def test_torn(self) -> None:
-        """Damages the last pages of copies of a journal that a kill -9 left."""
+        """The last pages of a journal that a kill -9 left are damaged."""
         server = self.server(1, self.folder_in("whole")).wait_until_up()
         begun = fill(server, 120, 3)
         server.kill()
         ways = [(count, how) for count in (1, 4096, 100_000) for how in ("cut off", "zeros", "garbage")]
         logs = [self.shown_of("node-1.db-wal", *way) for way in ways]
-        # 24 pages, one or more for each of four calls
+        # 24 pages, and each of four calls wrote at least one
         is_so = all(shown == begun[:len(shown)] and len(shown) >= len(begun) - 7 for shown in logs)
         lost_ones = len(begun) - min(map(len, logs))
-        self.check(f"of {len(begun)} LRAs a torn log loses the last {lost_ones} at most", is_so, logs)
+        self.check(f"of {len(begun)} LRAs a torn log loses at most the last {lost_ones}", is_so, logs)
         bases = [self.shown_of("node-1.db", *way) for way in ways]
         count = sum(isinstance(shown, tuple) and shown[0] == 1 and shown[1].endswith(JOURNAL) for shown in bases)
-        what = f"a torn database is refused ({count} of {len(bases)}), or is whole by its log"
+        what = f"a torn database is refused ({count} of {len(bases)}), or repaired from its log"
         self.check(what, count + bases.count(begun) == len(bases), bases)
 
     def without_room(self, server: Server, lras: list[str]) -> None:
-        """What holds while the disk is full: the program lives, commands are refused, and questions are answered once
-        the journal is open."""
+        """Checks the server while the disk is full: it runs, commands are refused, and reads are answered once the
+        journal is open."""
         began, refused, slowest = time.monotonic(), [], 0.0
         while time.monotonic() < began + 10:
             refused.append(server.finish(1, random.choice(lras), "cancel"))
@@ -291,12 +291,12 @@ class TestHostility(checks.Checked):
             is_answered = comes_to(20, lambda: server.ask(1, "GET", "/lra")[0] == 200)
             slowest = max(slowest, time.monotonic() - asked)
         what = f"while the disk is full {len(refused)} commands are refused"
-        what += f", and questions answered after {slowest:.1f} seconds at most"
+        what += f", and reads answered within {slowest:.1f} seconds"
         is_so = server.is_running() and set(refused) == {503} and is_answered and slowest < 10
         self.check(what, is_so, (server.process.poll(), set(refused)))
 
     def test_full_disk(self) -> None:
-        """A disk that fills up under load, and has room again."""
+        """A disk fills up under load, and later has room again."""
         disk = small_disk(self, "2m")
         server = self.server(1, disk).wait_until_up()
         overdue = server.begin(1, limit=5000)
@@ -310,14 +310,14 @@ class TestHostility(checks.Checked):
         self.check(f"with room again it goes on by itself after {took:.1f} seconds", is_well and took < 10)
         self.check("what was answered is there", set(begun) <= set(server.shown()))
         is_over = comes_to(10, lambda: server.shown()[overdue] == "Cancelled")
-        self.check("what was overdue meanwhile is cancelled", is_over, server.shown()[overdue])
+        self.check("an LRA that was overdue meanwhile is cancelled", is_over, server.shown()[overdue])
         status, text = server.end()
         lines = text.splitlines()
         is_so = status == 0 and {line.split(": ")[1] for line in lines} <= OF_DISK and 0 < len(lines) <= full + 2
-        self.check(f"it warned {len(lines)} times in {full:.0f} seconds, of nothing else", is_so, (status, text))
+        self.check(f"it warned {len(lines)} times in {full:.0f} seconds, only of the disk", is_so, (status, text))
 
     def test_flooded(self) -> None:
-        """1,500 clients that send garbage as pulls, each of which is one of a run's sixteen, beside two half
+        """1,500 clients send garbage as pulls, each of which counts as one of a run's sixteen, beside two half
         requests."""
         server, seconds = self.server(2).wait_until_up(), 20
         given = server.address(1), seconds, 500
@@ -330,13 +330,13 @@ class TestHostility(checks.Checked):
             one.join()
         behind = time.monotonic() + 2
         after = slowest_page(server, lambda: time.monotonic() >= behind, 0.1)
-        self.check(f"amid a flood of pulls another waits {during:.2f} seconds at most", during < 5)
-        self.check(f"behind it {after:.2f}", after < 5)
-        self.ends(server, lambda took: f"it ends {took:.1f} seconds behind its input then", 15)
+        self.check(f"during a flood of pulls another client waits at most {during:.2f} seconds", during < 5)
+        self.check(f"after it at most {after:.2f}", after < 5)
+        self.ends(server, lambda took: f"it ends {took:.1f} seconds after its input", 15)
 
     def test_changes(self) -> None:
-        """Changes of run beside two half requests: a client that asks amid one waits for it. Each sixteen pulls bring
-        one at least."""
+        """Runs change beside two half requests: a client that makes a request during a change waits for it. Sixteen
+        pulls cause at least one change."""
         server = self.server(1).wait_until_up()
         until, longest = beside_halves(server, 10), []
         while time.monotonic() < until:
@@ -346,12 +346,12 @@ class TestHostility(checks.Checked):
                 waits.append(wait_of(server, b"GET /lra HTTP/1.1\r\nHost: h\r\n\r\n"))
             longest.append(max(waits))
         middle, worst = sorted(longest)[len(longest) // 2] * 1000, max(longest) * 1000
-        what = f"of {len(longest)} changes of run half cost a client {middle:.1f} ms at most, the worst {worst:.1f}"
+        what = f"half of {len(longest)} changes of run cost a client at most {middle:.1f} ms, the worst {worst:.1f}"
         self.check(what, middle < 10, middle)
         server.end()
 
     def test_crowded(self) -> None:
-        """64 LRAs of 32 participants that complete at once, all at one host."""
+        """64 LRAs with 32 participants each complete at once, all at one host."""
         server, part = self.server(1).wait_until_up(), self.participant()
         lras = [server.begin(1) for _ in range(64)]
         for lra in lras:
@@ -368,12 +368,12 @@ class TestHostility(checks.Checked):
                 times.append(time.monotonic() - asked)
         took, slowest, most = time.monotonic() - began, max(times, default=0), memory_of(server.process)
         self.check(f"2,048 participants complete in {took:.1f} seconds", took < 30, took)
-        self.check(f"{most:.0f} MiB of memory at most meanwhile", most < 64, most)
-        self.check(f"a status takes {slowest * 1000:.0f} ms at most meanwhile", slowest < 0.05, slowest)
+        self.check(f"it uses at most {most:.0f} MiB of memory meanwhile", most < 64, most)
+        self.check(f"a status takes at most {slowest * 1000:.0f} ms meanwhile", slowest < 0.05, slowest)
         server.end()
 
     def test_many_runs(self) -> None:
-        """Requests over some hundred runs."""
+        """Requests are made over some hundred runs."""
         server, count = self.server(1).wait_until_up(), 100_000
         lra = server.begin(1)
         with multiprocessing.Manager() as manager:
@@ -390,7 +390,7 @@ class TestHostility(checks.Checked):
         server.end()
 
     def test_dead_addresses(self) -> None:
-        """Participants at an address that nobody has: the program's end waits for no connection."""
+        """Participants have an address that nobody has: the program doesn't wait for these connections when it ends."""
         server = self.server(1).wait_until_up()
         for host in ("10.255.255.1", "192.0.2.1", "198.51.100.1", "203.0.113.1"):
             lra = server.begin(1)
@@ -400,10 +400,10 @@ class TestHostility(checks.Checked):
         self.ends(server, lambda took: f"beside calls to dead addresses it ends after {took:.1f} seconds", 5)
 
     def killed(self, turn: int, part: Participant, bad: dict[str, list], counts: collections.Counter[str]) -> bool:
-        """Kills it once under load, and looks what is there then. Whether it starts again."""
+        """Kills the server once under load, and checks what is there afterwards. Returns whether it starts again."""
         noted: Notes = {}
         server = self.server(NODES)
-        if turn % 5 == 4:  # killed while it starts, too
+        if turn % 5 == 4:  # also killed while it starts
             time.sleep(random.uniform(0, 0.05))
             server.kill()
             server = self.server(NODES)
@@ -434,7 +434,7 @@ class TestHostility(checks.Checked):
         return True
 
     def test_kills(self) -> None:
-        """It is killed under load again and again: nothing answered is lost."""
+        """The server is killed under load again and again, and nothing that was answered is lost."""
         part, counts = self.participant(), collections.Counter[str]()
         bad: dict[str, list] = {"start": [], "lost": [], "end": [], "order": [], "agree": []}
         for turn in range(self.kills):
@@ -443,10 +443,10 @@ class TestHostility(checks.Checked):
         self.check(f"killed {self.kills} times under load it starts again each time", not bad["start"], bad["start"])
         what = f"{counts['begins']} begins, {counts['joins']} joins and {counts['decisions']} decisions"
         self.check(f"{what} that were answered are there", not bad["lost"], bad["lost"][:5])
-        self.check("all LRAs come to their ends", not bad["end"], bad["end"][:5])
+        self.check("all LRAs end", not bad["end"], bad["end"][:5])
         self.check(f"in {counts['calls']} calls all completed, or compensated last to first", not bad["order"],
                    bad["order"][:5])
-        self.check("all nodes agree then", not bad["agree"], bad["agree"][:1])
+        self.check("all nodes agree", not bad["agree"], bad["agree"][:1])
 
 
 def main() -> int:

@@ -1,20 +1,19 @@
 #!/usr/bin/env python3
-"""Tests the packages of a release: python3 tests/package.py [--in FOLDER | --unproved] [--gate FILE] [WORD..], by hand
-and as root. Standard library alone, beside Debian's tools: mmdebstrap, lintian, systemd, iproute2, curl, nginx; and
-docker-compose and python3-kubernetes, where they are installed.
+"""Tests the packages of a release, by hand and as root: python3 tests/package.py [--in FOLDER | --unproved] [--gate
+FILE] [WORD..]. Uses only the standard library and Debian's tools: mmdebstrap, lintian, systemd, iproute2, curl and
+nginx; and docker-compose and python3-kubernetes, if they are installed.
 
-The packages are those in release/, or FOLDER, which tools/release.py made; --unproved makes some of the unproved
+The packages are those in release/, or in FOLDER, which tools/release.py made; --unproved makes some from the unproved
 builds. The words are
 
-  install  into a fresh Debian 12: what README does with a node that runs there; an upgrade, a removal, a purge
+  install  a fresh Debian 12: README's commands with a node that runs there; an upgrade, a removal, a purge
   systemd  the units under a systemd that is booted in a container (systemd-nspawn)
-  files    lintian, systemd-analyze, nginx; the words of all units and files of deploy/ are the programs' own
-  image    deploy/Containerfile by buildah, and what it makes by runc, where these are installed
-  release  what tools/release.py refuses, in a copy of this tree with another version and an rt that stands in
-  twice    whether a second run of tools/release.py gives the same bytes, with --gate FILE as it takes it
+  files    lintian, systemd-analyze, nginx; the programs accept the arguments in all units and files of deploy/
+  image    deploy/Containerfile with buildah, and the image with runc, if these are installed
+  release  what tools/release.py refuses, in a copy of this tree with another version and a fake rt
+  twice    a second run of tools/release.py gives the same bytes; --gate FILE is passed on to it
 
-Debian comes from its network, once, into the temporary folder. Each check prints a line; the status is 1 where one
-fails."""
+Debian is downloaded once, into the temporary folder. Each check prints a line. Exits with 1 if a check fails."""
 import filecmp
 import glob
 import hashlib
@@ -40,11 +39,11 @@ from tools.quick import printed_by, quick_start
 from tools.repo import TOP
 from tools.version import FILE
 
-# Where Debian's packages of Python are.
+# Where Debian's Python packages are.
 SYSTEM = "/usr/lib/python3/dist-packages"
 STATE, CONF = "/var/lib/lra", "/etc/lra"
 CONFS = ("gateway.conf", "member.conf", "node.conf")
-# An rt that stands in for the kit's: it tells of another kit, and has no gate of its own.
+# A fake rt: it names another kit, and has no gate of its own.
 ANOTHER_RT = """#!/bin/sh
 case "$1" in
 version) echo "${{KIT_NAME:-rattle-kit-1}} logic 0" ;;
@@ -52,11 +51,11 @@ doc) exec {rt} doc ;;
 ci) [ -z "$MEANWHILE" ] || touch "$MEANWHILE"; echo "${{GATE:-99 passed, 0 failed}}" ;;
 esac
 """
-# What a unit's exposure may be at most, of 100.
+# The highest exposure that a unit may have, of 100.
 MOST_EXPOSED = 20
 ADDED = "# added\n"
 
-# What is done in a system that was booted, line by line, each with what it has to print.
+# The commands that run in a booted system, each with what it must print.
 BOOTED = (
     ("apt-get install -y -qq /root/older.deb", r"Setting up"),
     ("systemctl list-units --all --no-legend 'lra*' | wc -l", r"^0$"),
@@ -68,7 +67,7 @@ BOOTED = (
     ("before=$(pid lra-node); apt-get install -y -qq /root/package.deb; [ $before != $(pid lra-node) ] && echo another",
      r"another$"),
     ("ask 127.0.0.1:8070/lra", r'"Active"'),
-    # Without a key it ends with 2, and isn't started again.
+    # Without a key the gateway exits with 2, and isn't started again.
     ("systemctl start lra-gateway; sleep 4; systemctl show -p NRestarts -p ExecMainStatus lra-gateway",
      r"NRestarts=0\nExecMainStatus=2"),
     ("echo 127.0.0.1 lra1 lra2 lra3 >>/etc/hosts", r"^$"),
@@ -89,7 +88,7 @@ BOOTED = (
     ("apt-get purge -y -qq lra-coordinator; ls /var/lib/lra; find /etc/systemd /etc/lra -name '*lra*'",
      r"node-1.db\n(.*\n)*.*node-3.db(-wal)?(\nfind: .*)?$"),
 )
-# What stands before these lines, and ends the system behind them.
+# What stands around these commands, and shuts the system down after them.
 AROUND = """#!/bin/bash
 export DEBIAN_FRONTEND=noninteractive LC_ALL=C.UTF-8 PATH=/usr/sbin:/usr/bin:/sbin:/bin
 ask() {{ curl -s -m 300 --retry 300 --retry-delay 1 --retry-connrefused "$@"; }}
@@ -104,22 +103,22 @@ ExecStart=/bin/bash /root/lines
 
 
 class Given:
-    """What the command line says: where the packages are, and how they are made once more."""
+    """The options of the command line: where the packages are, and how they are made once more."""
 
     folder = f"{TOP}/release"
     again: tuple[str, ...] = ()
 
     @classmethod
     def package(cls) -> str:
-        """The package for Debian."""
+        """Returns the path of the Debian package."""
         found = glob.glob(f"{cls.folder}/{NAME}_*_amd64.deb")
         if len(found) != 1:
-            raise SystemExit(f"there has to be one package in {cls.folder}, which tools/release.py makes: {found}")
+            raise SystemExit(f"tools/release.py has to make exactly one package in {cls.folder}, which has {found}")
         return found[0]
 
 
 def older(package: str, folder: str) -> str:
-    """The same package with a lower version, and with other conf files."""
+    """Returns the same package with a lower version, and with other conf files."""
     tree, made = f"{folder}/older", f"{folder}/older.deb"
     subprocess.run(["dpkg-deb", "-R", package, tree], check=True)
     control = repo.read(f"{tree}/DEBIAN/control")
@@ -133,7 +132,7 @@ def older(package: str, folder: str) -> str:
 
 class TestPackage(checks.Checked):
     def install(self, debian: Debian, package: str) -> None:
-        """Installs a package, and nothing else changes."""
+        """Installs a package."""
         shutil.copyfile(package, debian.path("/root/package.deb"))
         ran = debian.apt("install", "/root/package.deb")
         self.check(f"{os.path.basename(package)} is installed", ran.returncode == 0, ran.stdout)
@@ -142,7 +141,7 @@ class TestPackage(checks.Checked):
         package = Given.package()
         with Debian() as debian:
             self.install(debian, older(package, self.folder))
-            self.same("the folder of journals", "lra:lra 750", debian.stat(STATE))
+            self.same("the journals' folder", "lra:lra 750", debian.stat(STATE))
             self.same("the file with the key", "root:lra 640", debian.stat(f"{CONF}/gateway.conf"))
             enabled = debian.run("find", "/etc/systemd", "-name", "*lra*").stdout
             self.same("no unit is enabled", "", enabled)
@@ -153,7 +152,7 @@ class TestPackage(checks.Checked):
             self.removal(debian, package)
 
     def serve(self, debian: Debian) -> subprocess.Popen[str]:
-        """A node that runs as the user lra in the root, as README starts it."""
+        """Starts the nodes as README does, as the user lra in the root."""
         start = quick_start()
         words = ["lra_node", "serve", str(start.nodes), str(start.port), STATE]
         server = subprocess.Popen(debian.inside(*words, user="lra"), stdin=subprocess.PIPE, text=True, env=QUIET)
@@ -164,12 +163,12 @@ class TestPackage(checks.Checked):
         return server
 
     def ended(self, server: subprocess.Popen[str]) -> int:
-        """Ends a node by its input, and gives its status."""
+        """Ends the nodes by closing their input, and returns the exit status."""
         server.communicate()
         return server.returncode
 
     def quick_start(self, debian: Debian) -> str:
-        """Does what README does. The path of the LRA that was closed."""
+        """Runs README's commands, and returns the path of the LRA that was closed."""
         server, start = self.serve(debian), quick_start()
         participant = subprocess.Popen(debian.beside(*start.command), cwd=TOP, stdout=subprocess.PIPE, text=True)
         shell = subprocess.Popen(debian.beside("sh"), stdin=subprocess.PIPE, stdout=subprocess.PIPE, text=True,
@@ -190,16 +189,16 @@ class TestPackage(checks.Checked):
             participant.kill()
             shell.communicate()
             participant.communicate()
-        self.same("the nodes end with their input", 0, self.ended(server))
+        self.same("the nodes end when their input does", 0, self.ended(server))
         return lra
 
     def upgrade(self, debian: Debian, package: str, lra: str) -> None:
-        """Another version keeps the journals, and the files that were changed."""
+        """Another version keeps the journals, and the configuration files that were changed."""
         before = repo.read(debian.path(f"{CONF}/member.conf"))
         self.install(debian, package)
-        self.check("a file that was changed stays", repo.read(debian.path(f"{CONF}/node.conf")).endswith(ADDED))
+        self.check("a changed file stays", repo.read(debian.path(f"{CONF}/node.conf")).endswith(ADDED))
         after = repo.read(debian.path(f"{CONF}/member.conf"))
-        self.same("one that wasn't is the new one", before.removeprefix("# older\n"), after)
+        self.same("an unchanged file is replaced by the new one", before.removeprefix("# older\n"), after)
         self.same("the file with the key", "root:lra 640", debian.stat(f"{CONF}/gateway.conf"))
         server = self.serve(debian)
         port = quick_start().port
@@ -208,7 +207,7 @@ class TestPackage(checks.Checked):
         self.same("the nodes end", 0, self.ended(server))
 
     def removal(self, debian: Debian, package: str) -> None:
-        """A removal keeps what was set and stored, a purge what was stored, unless that is to go too."""
+        """A removal keeps settings and journals. A purge keeps only journals, unless they are to be purged too."""
         journals = [debian.path(f"{STATE}/node-{node}.db") for node in range(1, quick_start().nodes + 1)]
         ran = debian.apt("remove", NAME)
         is_gone = ran.returncode == 0 and not os.path.exists(debian.path("usr/bin/lra_node"))
@@ -218,25 +217,26 @@ class TestPackage(checks.Checked):
         ran = debian.apt("purge", NAME)
         self.check("it is purged", ran.returncode == 0 and not os.path.exists(debian.path(CONF)), ran.stdout)
         is_said = STATE in ran.stdout and all(map(os.path.exists, journals))
-        self.check("its journals stay, which it says", is_said, ran.stdout)
+        self.check("its journals stay, and the purge says so", is_said, ran.stdout)
         self.install(debian, package)
         debian.run("debconf-set-selections", given=f"{NAME} {NAME}/purge_journals boolean true\n")
         ran = debian.apt("purge", NAME)
         is_gone = ran.returncode == 0 and not os.path.exists(debian.path(STATE))
-        self.check("told so, it purges them too", is_gone, ran.stdout)
+        self.check("if told to, it purges them too", is_gone, ran.stdout)
         left = debian.run("find", "/", "-xdev", "-name", "*lra[-_]*")
         self.same("nothing is left", "", left.stdout)
 
 
 def run_lines(words: list[str], **how: typing.Any) -> tuple[int, str]:
-    """The status of a tool, and all that it says."""
+    """Runs a tool, and returns its exit status and everything that it prints."""
     ran = subprocess.run(words, stdin=subprocess.DEVNULL, stdout=subprocess.PIPE, stderr=subprocess.STDOUT, text=True,
                          **how)
     return ran.returncode, ran.stdout.strip()
 
 
 def said_words() -> Iterator[tuple[str, list[str]]]:
-    """Each line of a unit or a file that runs a program, with its words: of a unit with what its conf file says."""
+    """Yields each command line in the units and files that runs a program, with its words. In a unit, variables from
+    its conf file are replaced."""
     for name in UNITS:
         unit = repo.read(f"deploy/systemd/{name}")
         conf = repo.read("deploy/conf/" + repo.found(r"EnvironmentFile=/etc/lra/(.*)", unit)[1])
@@ -255,7 +255,7 @@ def said_words() -> Iterator[tuple[str, list[str]]]:
 
 class TestSystemd(checks.Checked):
     def test_systemd(self) -> None:
-        """The units under a systemd that was booted in a container, with what they may do as they say it."""
+        """The units work under a systemd that is booted in a container, with the rights that they give."""
         root, package = self.folder_in("root"), Given.package()
         subprocess.run(["tar", "-xf", kept_root("systemd,systemd-sysv,dbus,curl,procps"), "-C", root], check=True)
         shutil.copyfile(package, f"{root}/root/package.deb")
@@ -266,7 +266,7 @@ class TestSystemd(checks.Checked):
         wants = self.folder_in("root/etc/systemd/system/default.target.wants")
         os.symlink("../lines.service", f"{wants}/lines.service")
         boot, nothing = ["systemd-nspawn", "--quiet", "--private-network", "-D", root, "--boot"], subprocess.DEVNULL
-        # (where no systemd runs outside, there is nobody to tell of it)
+        # (if no systemd runs outside, the container can't be registered)
         boot += [] if os.path.isdir("/run/systemd/system") else ["--register=no", "--keep-unit"]
         subprocess.run(boot, stdin=nothing, stdout=nothing, stderr=nothing, timeout=900)
         for number, (line, wanted) in enumerate(BOOTED):
@@ -282,7 +282,7 @@ class TestFiles(checks.Checked):
         subprocess.run(["dpkg-deb", "-x", Given.package(), self.tree], check=True)
 
     def test_files(self) -> None:
-        self.same("SHA256SUMS fits", 0, run_lines(["sha256sum", "--check", "SHA256SUMS"], cwd=Given.folder)[0])
+        self.same("SHA256SUMS matches", 0, run_lines(["sha256sum", "--check", "SHA256SUMS"], cwd=Given.folder)[0])
         self.links()
         self.programs()
         self.words()
@@ -292,7 +292,7 @@ class TestFiles(checks.Checked):
         self.manifests()
 
     def links(self) -> None:
-        """What the pages of both packages link to is there too."""
+        """The pages of both packages link only to files that are there."""
         unpacked = self.folder_in("unpacked")
         archive, = glob.glob(f"{Given.folder}/{NAME}-*.tar.gz")
         subprocess.run(["tar", "-xzf", archive, "-C", unpacked, "--strip-components=1"], check=True)
@@ -301,14 +301,15 @@ class TestFiles(checks.Checked):
             linked = [(page, link) for page in pages for link in re.findall(r"\]\(([^)#:\s]+)[)#]", repo.read(page))]
             missing = [f"{os.path.relpath(page, top)} links to {link}" for page, link in linked
                        if not os.path.exists(os.path.join(os.path.dirname(page), link))]
-            self.same(f"what the {len(pages)} pages of {where} link to is there", [], missing)
+            self.same(f"the {len(pages)} pages of {where} link only to files that are there", [], missing)
 
     def programs(self) -> None:
-        """Both packages have the same programs, whose sums PROVED tells, if there is one: the unproved have none."""
+        """Both packages have the same programs. PROVED has their checksums, if it is there: unproved packages have
+        none."""
         archive, = glob.glob(f"{Given.folder}/{NAME}-*.tar.gz")
         proved = f"{self.tree}/{DOCS}/PROVED"
         told = repo.read(proved) if os.path.exists(proved) else ""
-        self.check("PROVED is there unless they are unproved", bool(told) != ("~unproved" in archive), archive)
+        self.check("PROVED is there unless the packages are unproved", bool(told) != ("~unproved" in archive), archive)
         with tarfile.open(archive) as tar:
             files = {entry.name.partition("/")[2]: entry for entry in tar}
             for name in PROGRAMS:
@@ -316,10 +317,10 @@ class TestFiles(checks.Checked):
                 found = tar.extractfile(files[f"bin/{name}"])
                 self.check(f"{name} is the same in both", found and found.read() == data)
                 line = f"{hashlib.sha256(data).hexdigest()}  {name}"
-                self.check(f"{name} has the sum that PROVED tells", not told or line in told, told)
+                self.check(f"{name} has the checksum in PROVED", not told or line in told, told)
 
     def words(self) -> None:
-        """Each program takes its words: it looks for its journal, and a gateway runs until its input ends."""
+        """Each program accepts its arguments: a node looks for its journal, and a gateway runs until its input ends."""
         none = f"{self.folder}/none"
         for where, words in said_words():
             given = [none if word == STATE else word for word in words]
@@ -330,9 +331,9 @@ class TestFiles(checks.Checked):
             self.check(f"{where}: {shlex.join(words)}", status == wanted[0] and wanted[1] in said, (status, said))
 
     def units(self) -> None:
-        """systemd finds nothing to say of the units, and little that they could do wrong."""
+        """systemd-analyze finds no fault in the units, and a low exposure."""
         units = [f"{self.tree}/lib/systemd/system/{name}" for name in UNITS]
-        # They name programs in /usr/bin, so these are there for a while, for this tool alone.
+        # The units name programs in /usr/bin, so the programs are put there, where only this tool sees them.
         over = f'mount -t overlay -o "lowerdir={self.tree}/usr:/usr" overlay /usr && exec systemd-analyze verify "$@"'
         seen = run_lines(["unshare", "--mount", "sh", "-c", over, "sh", *units])
         self.same("systemd-analyze verify says nothing", (0, ""), seen)
@@ -347,31 +348,31 @@ class TestFiles(checks.Checked):
         self.check("lintian finds neither errors nor warnings", status == 0, said)
 
     def nginx(self) -> None:
-        """nginx takes its file, once the names are put in."""
+        """nginx accepts its file, with the names put in."""
         text, folder = repo.read("deploy/lra.conf.template"), self.folder
         text = text.replace("${NGINX_LOCAL_RESOLVERS}", "127.0.0.1")
         text = re.sub(r"\$\{(NODE_\d|ANY_NODE)\}", "node.example:8070", text)
         around = f"pid {folder}/pid; error_log stderr; events {{}}\nhttp {{ access_log off;\n{text}}}\n"
         repo.write(f"{folder}/nginx.conf", around)
-        self.check("every name of lra.conf.template is known", "${" not in text, text)
+        self.check("every variable in lra.conf.template is known", "${" not in text, text)
         status, said = run_lines(["nginx", "-t", "-q", "-c", f"{folder}/nginx.conf"])
-        self.check("nginx takes lra.conf.template", status == 0, said)
+        self.check("nginx accepts lra.conf.template", status == 0, said)
 
     def manifests(self) -> None:
-        """The files for compose and for Kubernetes, where there is a tool that reads them."""
+        """The files for compose and for Kubernetes are valid, if there is a tool that reads them."""
         if shutil.which("docker-compose"):
             status, said = run_lines(["docker-compose", "-f", f"{TOP}/deploy/compose.yaml", "config", "-q"])
-            self.check("docker-compose takes compose.yaml", status == 0, said)
+            self.check("docker-compose accepts compose.yaml", status == 0, said)
         if os.path.isdir(f"{SYSTEM}/kubernetes"):
             status, said = run_lines(["/usr/bin/python3", f"{TOP}/tests/manifests.py"])
-            self.check(f"kubernetes.yaml fits Kubernetes' models: {said}", status == 0, said)
+            self.check(f"kubernetes.yaml matches Kubernetes' models: {said}", status == 0, said)
 
 
 class TestImage(checks.Checked):
-    """The image of deploy/Containerfile, over a Debian that was made here, since no registry is asked."""
+    """The image of deploy/Containerfile, over a Debian that is made here, so that no registry is needed."""
 
     def buildah(self, *words: str) -> str:
-        """What buildah says, with all that it keeps in the folder of the test."""
+        """Runs buildah, which keeps everything in the test's folder, and returns what it prints."""
         where = ["--root", f"{self.folder}/kept", "--runroot", f"{self.folder}/run", "--storage-driver", "vfs"]
         return subprocess.run(["buildah", *where, *words], stdout=subprocess.PIPE, check=True, text=True,
                               stderr=subprocess.DEVNULL).stdout.strip()
@@ -380,7 +381,7 @@ class TestImage(checks.Checked):
         return run_lines(["runc", "--root", f"{self.folder}/runc", *words], cwd=self.bundle)
 
     def built(self) -> str:
-        """The folder of a container of the image."""
+        """Returns the folder of a container of the image."""
         subprocess.run(["tar", "-xf", kept_root(), "-C", self.buildah("mount", self.buildah("from", "scratch")),
                         "--exclude=./dev/*"], check=True)
         self.buildah("commit", "working-container", "docker.io/library/debian:bookworm-slim")
@@ -390,8 +391,8 @@ class TestImage(checks.Checked):
         return self.buildah("mount", self.buildah("from", "--pull-never", "localhost/image"))
 
     def described(self, root: str) -> None:
-        """Has runc run it as the image says: as its user, with its words, without rights, in a root that stays as it
-        is."""
+        """Writes runc's configuration from the image: its user and command line, no capabilities, and a read-only
+        root."""
         self.runc("spec")
         said = json.loads(repo.read(f"{self.bundle}/config.json"))
         image = json.loads(self.buildah("inspect", "--type=image", "localhost/image"))["OCIv1"]["config"]
@@ -404,7 +405,7 @@ class TestImage(checks.Checked):
         said["mounts"].append(volume)
         repo.write(f"{self.bundle}/config.json", json.dumps(said))
 
-    @unittest.skipUnless(shutil.which("buildah") and shutil.which("runc"), "there is no buildah, or no runc")
+    @unittest.skipUnless(shutil.which("buildah") and shutil.which("runc"), "buildah or runc is missing")
     def test_image(self) -> None:
         self.bundle = self.folder_in("bundle")
         self.described(self.built())
@@ -413,8 +414,8 @@ class TestImage(checks.Checked):
                            stdin=subprocess.DEVNULL, stdout=log, stderr=log, check=True)
         self.addCleanup(self.runc, "delete", "--force", NAME)
         health = f"/usr/libexec/{NAME}/health"
-        self.check("it comes to be well", comes_to(60, lambda: self.runc("exec", NAME, health)[0] == 0))
-        self.same("its journal is its user's", 8070, os.stat(f"{self.folder}/volume/node-1.db").st_uid)
+        self.check("its health check succeeds", comes_to(60, lambda: self.runc("exec", NAME, health)[0] == 0))
+        self.same("its journal belongs to its user", 8070, os.stat(f"{self.folder}/volume/node-1.db").st_uid)
         self.runc("kill", NAME, "TERM")
         is_over = comes_to(3, lambda: '"stopped"' in self.runc("state", NAME)[1])
         self.check("it ends at SIGTERM", is_over, repo.read(f"{self.folder}/log"))
@@ -428,14 +429,14 @@ class TestRelease(checks.Checked):
         subprocess.run(["git", *who, *words], cwd=self.copy, check=True, stdout=subprocess.DEVNULL)
 
     def commit(self, path: str = "", text: str = "") -> None:
-        """Commits all, perhaps with a file."""
+        """Commits everything, after writing a file if one is given."""
         if path:
             repo.write(f"{self.copy}/{path}", text)
         self.git("add", "--all")
         self.git("commit", "-q", "--allow-empty", "-m", "of the test")
 
     def release(self, *words: str, **environment: str) -> tuple[int, str]:
-        """What comes of tools/release.py there."""
+        """Runs tools/release.py in the copy."""
         path = f"{self.folder}:{os.environ['PATH']}"
         return run_lines([sys.executable, f"{self.copy}/tools/release.py", *words],
                          env={**os.environ, "PATH": path, **environment})
@@ -445,7 +446,7 @@ class TestRelease(checks.Checked):
         self.check(f"refused: {why}", status == 1 and re.search(why, said), (status, said))
 
     def copied(self) -> None:
-        """A copy with a version that isn't released yet, which `release/` and what was built aren't part of."""
+        """Makes a copy with a version that isn't released yet, without `release/` and without builds."""
         self.copy = f"{self.folder}/copy"
         shutil.copytree(TOP, self.copy, ignore=shutil.ignore_patterns(".git", "out", "release", "__pycache__"))
         repo.write(f"{self.folder}/rt", ANOTHER_RT.format(rt=shutil.which("rt")))
@@ -456,7 +457,7 @@ class TestRelease(checks.Checked):
         self.commit("CHANGELOG.md", "# Changes\n\n## 9.8.7\n\n- Something.\n\n## 0.0.8\n")
         subprocess.run(["dpkg-deb", "-x", Given.package(), f"{self.folder}/tree"], check=True)
         for name in PROGRAMS:
-            # (the least of the three stands for all, since it is squeezed soonest)
+            # (the smallest program stands for all of them, since it is compressed fastest)
             os.makedirs(f"{self.copy}/crates/{name}/out")
             shutil.copyfile(f"{self.folder}/tree/usr/bin/lra_gateway", f"{self.copy}/crates/{name}/out/{name}")
 
@@ -465,10 +466,10 @@ class TestRelease(checks.Checked):
         self.refused("isn't a release")
         self.refused("has no section for 9.8.6", "cut", "9.8.6")
         self.refused("isn't a version like", "cut", "9.8")
-        self.same("it is cut", (0, ""), self.release("cut", "9.8.7"))
+        self.same("the release is cut", (0, ""), self.release("cut", "9.8.7"))
         self.refused("the tree differs from the commit")
         self.commit()
-        self.same("all fits", (0, ""), self.release("check"))
+        self.same("everything agrees", (0, ""), self.release("check"))
         self.refused("the kit here is rattle-kit-2", KIT_NAME="rattle-kit-2")
         self.refused("'99 passed, 1 failed'", GATE="99 passed, 1 failed")
         self.refused("'3 passed, 0 failed'", GATE="3 passed, 0 failed")
@@ -485,7 +486,7 @@ class TestRelease(checks.Checked):
         self.refused("crates.txt differs from")
 
     def told_commit(self) -> None:
-        """Has the programs say that they are of the commit that the release is cut from."""
+        """Writes the commit that the release is cut from into the programs."""
         told = [repo.found(r'COMMIT: &str =\s*"(.*)"', repo.read(f"{top}/{FILE}"))[1].encode()
                 for top in (TOP, self.copy)]
         for name in PROGRAMS:
@@ -496,18 +497,18 @@ class TestRelease(checks.Checked):
                 file.write(data)
 
     def gate_of_file(self) -> None:
-        """A gate whose output is in a file: what is newer than that isn't of it."""
+        """If the gate's output is in a file, programs and sources that are newer are refused."""
         gate, program = f"{self.folder}/gate", f"{self.copy}/crates/lra_node/out/lra_node"
         repo.write(gate, "built\n99 passed, 0 failed\n")
-        self.same("it is released", 0, self.release("--gate", gate, f"{self.folder}/made")[0])
+        self.same("the packages are made", 0, self.release("--gate", gate, f"{self.folder}/made")[0])
         names = sorted(os.listdir(f"{self.folder}/made"))
         wanted = [f"{NAME}-9.8.7-linux-x86_64.tar.gz", f"{NAME}_9.8.7_amd64.deb", "SHA256SUMS"]
-        self.same("the files", sorted(wanted), names)
+        self.same("their names", sorted(wanted), names)
         with tarfile.open(f"{self.folder}/made/{wanted[0]}") as tar:
             file = tar.extractfile(f"{NAME}-9.8.7-linux-x86_64/PROVED")
             told = file.read().decode() if file else ""
         sum_here = hashlib.sha256(bytes_at(program)).hexdigest()
-        self.check("PROVED tells of gate and programs", "99 passed, 0 failed\n" in told and sum_here in told, told)
+        self.check("PROVED names the gate and the programs", "99 passed, 0 failed\n" in told and sum_here in told, told)
         os.utime(program, (os.path.getmtime(gate) + 9,) * 2)
         self.refused("is newer than", "--gate", gate)
         os.utime(program, (os.path.getmtime(gate),) * 2)
@@ -521,7 +522,7 @@ class TestRelease(checks.Checked):
 
 class TestTwice(checks.Checked):
     def test_twice(self) -> None:
-        """A second run, elsewhere on the clock and with other rights for new files."""
+        """A second run, in another time zone and with another umask, gives the same bytes."""
         another = {**os.environ, "TZ": "Asia/Tokyo", "LC_ALL": "C", "TMPDIR": self.folder_in("room")}
         made = self.folder_in("made")
         words = [sys.executable, f"{TOP}/tools/release.py", *Given.again, made]

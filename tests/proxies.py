@@ -1,10 +1,10 @@
 #!/usr/bin/env python3
-"""Tests the proxies of docs/OPERATING.md: two members that reach one another by proxies alone, with TLS and
-certificates on both sides, and one name for three nodes, also by deploy/lra.conf.template: python3 tests/proxies.py
-[PROGRAM]. The certificates are made here, by openssl; the proxies are nginx. Without these two it is skipped.
+"""Tests the proxies of docs/OPERATING.md: python3 tests/proxies.py [PROGRAM]. Two members reach each other only through
+proxies, with TLS and certificates on both sides, and three nodes have one name, also with deploy/lra.conf.template. The
+test makes the certificates with openssl; the proxies are nginx. Without these two programs it is skipped.
 
-PROGRAM is crates/lra_node/out/lra_node, or --unproved (tools/unproved.py). Each check prints a line; the status is
-1 where one fails."""
+PROGRAM is crates/lra_node/out/lra_node, or --unproved (tools/unproved.py). Each check prints a line. Exits with 1 if a
+check fails."""
 import http.client
 import os
 import re
@@ -25,7 +25,7 @@ from tools.ports import HOST, free_row
 
 HAS_BOTH = bool(shutil.which("nginx") and shutil.which("openssl"))
 
-# What stands around the servers of a file.
+# What stands around the servers in a configuration file.
 AROUND = """
 pid {folder}/nginx.pid;
 error_log {folder}/error.log;
@@ -70,13 +70,13 @@ def openssl(*words: str) -> None:
 
 
 def authority(folder: str) -> None:
-    """One who signs certificates."""
+    """Makes a certificate authority."""
     openssl("req", "-x509", "-newkey", "rsa:2048", "-nodes", "-days", "2", "-subj", "/CN=ca",
             "-keyout", f"{folder}/ca.key", "-out", f"{folder}/ca.crt")
 
 
 def certificate(folder: str, to: str) -> None:
-    """A member's certificate, signed by the one of a folder."""
+    """Makes a member's certificate, signed by the authority of a folder."""
     openssl("req", "-newkey", "rsa:2048", "-nodes", "-subj", "/CN=member", "-addext", "subjectAltName=DNS:member",
             "-keyout", f"{to}/member.key", "-out", f"{to}/member.csr")
     openssl("x509", "-req", "-days", "2", "-in", f"{to}/member.csr", "-CA", f"{folder}/ca.crt",
@@ -97,7 +97,7 @@ class Nginx:
 
 
 class Behind(Group):
-    """Two members, each of which finds the other at its own proxy's way out."""
+    """Two members, each of which finds the other at its own proxy's outward port."""
 
     def __init__(self, count: int, folder: str, *options: str) -> None:
         super().__init__(count, folder, *options)
@@ -108,14 +108,14 @@ class Behind(Group):
         return [f"{HOST}:{port}" for port in ways]
 
     def servers(self, number: int, folder: str) -> str:
-        """The servers of the proxy beside a member."""
+        """Returns the servers of the proxy beside a member."""
         own, other = number - 1, 2 - number
         return SERVERS.format(folder=folder, own=self.ports[own], inward=self.inward[own], outward=self.outward[own],
                               theirs=self.inward[other])
 
 
 class Pods(Group):
-    """Members as a cluster has them: each at an address of its own, all at one port."""
+    """Members as in a cluster: each at an address of its own, all at the same port."""
 
     def __init__(self, count: int, folder: str, *options: str) -> None:
         super().__init__(count, folder, *options)
@@ -136,7 +136,7 @@ class Pods(Group):
 
 
 class Names:
-    """Tells nginx which addresses names have, by DNS."""
+    """A DNS server that tells nginx which addresses names have."""
 
     def __init__(self, addresses: dict[str, list[str]]) -> None:
         self.addresses = addresses
@@ -151,7 +151,7 @@ class Names:
             self.socket.sendto(self.answer(question), client)
 
     def answer(self, question: bytes) -> bytes:
-        """The answer to a question for the addresses of a name, which are good for a second."""
+        """Returns the answer to a query for the addresses of a name, which are valid for a second."""
         labels, place = [], 12
         while question[place]:
             labels.append(question[place + 1: place + 1 + question[place]].decode())
@@ -163,15 +163,16 @@ class Names:
 
 
 def template_file(front: int, names: int, port: int) -> str:
-    """deploy/lra.conf.template with what nginx's image puts in: the members' names, at one port, and who knows them."""
+    """Returns deploy/lra.conf.template with what nginx's image fills in: the members' names, at one port, and the DNS
+    server."""
     text = repo.read("deploy/lra.conf.template").replace("listen 8080;", f"listen {HOST}:{front};")
     text = text.replace("${NGINX_LOCAL_RESOLVERS}", f"{HOST}:{names}").replace("${ANY_NODE}", f"any.example:{port}")
     return re.sub(r"\$\{NODE_(\d)\}", rf"node-\1.example:{port}", text)
 
 
 def told_over_tls(port: int, folder: str | None = None) -> str:
-    """What comes of an empty pull at a proxy, with the certificate of a folder or with none: the body of the answer, if
-    one comes."""
+    """Sends an empty pull to a proxy, with the certificate of a folder or with none, and returns the body of the
+    answer, if one comes."""
     context = ssl.SSLContext(ssl.PROTOCOL_TLS_CLIENT)
     context.check_hostname = False
     context.verify_mode = ssl.CERT_NONE
@@ -188,7 +189,7 @@ def told_over_tls(port: int, folder: str | None = None) -> str:
 
 
 def one_name_file(front: int, ports: list[int]) -> str:
-    """The file of docs/OPERATING.md by which three nodes have one name, with other ports."""
+    """Returns the file of docs/OPERATING.md that gives three nodes one name, with other ports."""
     text = repo.read("docs/OPERATING.md")
     text = text[text.index("upstream each_in_turn"):]
     text = text[: text.index("```")].replace("listen 80;", f"listen {HOST}:{front};")
@@ -197,7 +198,7 @@ def one_name_file(front: int, ports: list[int]) -> str:
     return text
 
 
-@unittest.skipUnless(HAS_BOTH, "there is no nginx, or no openssl")
+@unittest.skipUnless(HAS_BOTH, "nginx or openssl is missing")
 class TestProxies(checks.Checked):
     needs = (Group,)
 
@@ -206,11 +207,11 @@ class TestProxies(checks.Checked):
         os.chmod(self.folder, 0o755)
 
     def nginx(self, folder: str, servers: str) -> None:
-        """An nginx that ends with the test."""
+        """Starts an nginx that ends with the test."""
         self.addCleanup(Nginx(folder, servers).end)
 
     def test_members(self) -> None:
-        """Two members that reach one another by proxies alone."""
+        """Two members reach each other only through proxies."""
         group = self.group(2, kind=Behind)
         folders = {number: self.folder_in(f"proxy-{number}") for number in (1, 2)}
         other, stranger = self.folder_in("other"), self.folder_in("stranger")
@@ -227,36 +228,36 @@ class TestProxies(checks.Checked):
         self.are_members(group)
         self.refuses_strangers(group, folders[2], stranger)
         for number in (1, 2):
-            self.check(f"node {number} has nothing to tell", group.log(number) == "", group.log(number))
+            self.check(f"node {number} logs nothing", group.log(number) == "", group.log(number))
         group.end()
 
     def are_members(self, group: Group) -> None:
-        """News come through."""
+        """Checks that new facts come through."""
         shown = [group.comes_to(3 - node, group.begin(node), "Active") for node in (1, 2) for _ in range(3)]
-        self.check("each is shown by the other what it begins", None not in shown, shown)
+        self.check("each shows what the other begins", None not in shown, shown)
         lra = group.begin(1)
         group.finish(1, lra)
-        self.check("and what it closes", group.comes_to(2, lra, "Closed") is not None)
+        self.check("it shows what the other closes", group.comes_to(2, lra, "Closed") is not None)
 
     def refuses_strangers(self, group: Behind, folder: str, stranger: str) -> None:
-        """Nobody else comes through the first proxy."""
+        """Checks that nobody else comes through the first proxy."""
         inward = group.inward[0]
-        for what, who in (("no certificate", None), ("one that another signed", stranger)):
+        for what, who in (("no certificate", None), ("one of another authority", stranger)):
             seen = told_over_tls(inward, who)
-            self.check(f"a proxy refuses who has {what}", "SSL certificate" in seen and "E16" not in seen, seen)
+            self.check(f"a proxy refuses a client with {what}", "SSL certificate" in seen and "E16" not in seen, seen)
         seen = told_over_tls(inward, folder)
-        what = "who has a member's is answered by the member: an empty body is no pull"
+        what = "a client with a member's certificate gets the member's answer: an empty body isn't a pull"
         self.check(what, "E16 BadFrame 0" in seen, seen)
         plain = self.pulled(inward)
-        self.check("and who speaks without TLS is told so", b"400" in plain, plain)
+        self.check("a client without TLS is refused", b"400" in plain, plain)
 
     def pulled(self, port: int) -> bytes:
-        """The first line of the answer to an empty pull, without TLS."""
+        """Sends an empty pull without TLS, and returns the first line of the answer."""
         pull = b"POST /peer/pull HTTP/1.1\r\nHost: a\r\nContent-Length: 0\r\nConnection: close\r\n\r\n"
         return exchange((HOST, port), pull).split(b"\r\n")[0]
 
     def test_one_name(self) -> None:
-        """Three nodes of one process behind one nginx."""
+        """Three nodes of one process stand behind one nginx."""
         group, front = self.group(3, "keep=600000"), free_row(1)[0]
         group.start(1, word="1-3")
         self.nginx(self.folder, one_name_file(front, group.ports))
@@ -268,13 +269,14 @@ class TestProxies(checks.Checked):
         for lra in begun:
             self.goes_home(front, lra)
         all_of = comes_to(10, lambda: len(ask(front, "GET", "/lra")[1]["lras"]) == 12)
-        self.check("a page has all", all_of)
+        self.check("a page has all LRAs", all_of)
         line = self.pulled(front)
-        self.check("nobody pulls by that name", b" 404 " in line, line)
+        self.check("pulls aren't forwarded by that name", b" 404 " in line, line)
         group.end()
 
     def test_a_node_is_down(self) -> None:
-        """Three nodes behind one nginx, of which one is down: nobody who begins sees it, and nothing is begun twice."""
+        """One of three nodes behind one nginx is down: a client that begins doesn't notice, and nothing is begun
+        twice."""
         group, front = self.group(3), free_row(1)[0]
         group.start()
         self.nginx(self.folder, one_name_file(front, group.ports))
@@ -284,11 +286,11 @@ class TestProxies(checks.Checked):
         codes = [code for code, _ in answers]
         self.check("each begin is answered by another node", codes == [201] * 12, codes)
         begun = {body["lra"] for code, body in answers if code == 201}
-        self.check("and made once", comes_to(10, lambda: self.held(group.ports[0]) == begun), begun)
+        self.check("each is made once", comes_to(10, lambda: self.held(group.ports[0]) == begun), begun)
         group.end(1, 3)
 
     def test_template(self) -> None:
-        """Three members behind the nginx of deploy/, which asks for their names."""
+        """Three members stand behind the nginx of deploy/, which looks up their names."""
         group, front = self.group(3, kind=Pods), free_row(1)[0]
         group.start()
         names = {f"node-{number}.example": [host] for number, host in enumerate(group.hosts, 1)}
@@ -301,10 +303,10 @@ class TestProxies(checks.Checked):
             self.goes_home(front, lra)
         self.same("a begin at a node", 2, home_of(ask(front, "POST", "/node/2/lra", {})[1]["lra"]))
         line = self.pulled(front)
-        self.check("nobody pulls by that name", b" 404 " in line, line)
+        self.check("pulls aren't forwarded by that name", b" 404 " in line, line)
         group.kill(2)
         codes = [ask(front, "POST", "/lra", {})[0] for _ in range(12)]
-        self.check("each begin is answered while one is down", codes == [201] * 12, codes)
+        self.check("each begin is answered while one node is down", codes == [201] * 12, codes)
         # A pod that is started anew has another address.
         asked.addresses["node-2.example"] = ["127.0.1.9"]
         group.hosts[1] = "127.0.1.9"
@@ -313,19 +315,19 @@ class TestProxies(checks.Checked):
         lra = next(lra for lra in begun if home_of(lra) == 2)
         # (nginx's own answer isn't JSON)
         shown = comes_to(20, lambda: request((HOST, front), "GET", f"/lra/{lra}").status == 200)
-        self.check("a node that has another address is found there", shown)
-        # Where no node is ready, the name of all has no address.
+        self.check("a node with a new address is found there", shown)
+        # If no node is ready, the common name has no address.
         asked.addresses["any.example"] = []
         at_first = comes_to(20, lambda: {home_of(ask(front, "POST", "/lra", {})[1]["lra"]) for _ in range(6)} == {1})
-        self.check("begins go to the first node where none is ready", at_first)
+        self.check("begins go to the first node if none is ready", at_first)
         group.end()
 
     def held(self, port: int) -> set[str]:
-        """All that a node shows on its first page."""
+        """Returns all LRAs that a node shows on its first page."""
         return {lra["lra"] for lra in ask(port, "GET", "/lra")[1]["lras"]}
 
     def goes_home(self, front: int, lra: str) -> None:
-        """Calls for an LRA, by the one name."""
+        """Checks that calls for an LRA, made to the common name, reach its home."""
 
         def called(method: str, path: str, body: Json = None) -> tuple[int, Json]:
             return ask(front, method, path, body)
@@ -337,7 +339,7 @@ class TestProxies(checks.Checked):
         shown = request((HOST, front), "GET", joined[1]["recovery"])
         closed = called("PUT", f"/lra/{lra}/close")
         codes = joined[0], nested[0], spelled, shown.status, closed[0]
-        self.check(f"calls for {lra[14:18]} go home", codes == (200, 201, [200] * 4, 200, 200), codes)
+        self.check(f"calls for {lra[14:18]} reach its home", codes == (200, 201, [200] * 4, 200, 200), codes)
 
 
 def main() -> int:

@@ -1,8 +1,9 @@
 #!/usr/bin/env python3
-"""Tests the built server as a user meets it: python3 tests/serve.py [PROGRAM]. Standard library alone; half a minute.
+"""Tests the built server from outside: python3 tests/serve.py [PROGRAM]. Uses only the standard library; takes half a
+minute.
 
 PROGRAM is crates/lra_node/out/lra_node, which ./coordinator builds, or --unproved (tools/unproved.py). Each check
-prints a line; the status is 1 where one fails."""
+prints a line. Exits with 1 if a check fails."""
 import contextlib
 import json
 import os
@@ -22,11 +23,11 @@ from tools.ports import HOST, free_row
 from tools.repo import TOP
 
 JOURNALS = f"{TOP}/tests/data/journal-1"
-# What a node tells whose journal can't be opened.
+# What a node logs if it can't open its journal.
 NOT_OPENED = "node 1: can't open its journal: "
 NO_FOLDER = f"{NOT_OPENED}the folder is missing, permission is denied, or no file descriptor is left\njournal 1\n"
 CONTINUE = b"HTTP/1.1 100 Continue\r\n\r\n"
-# Fields that are refused, whatever body comes: the code, the version, and the lines.
+# Header fields that are refused, whatever body comes: the status, the HTTP version, and the lines.
 REFUSED_FIELDS = (
     (400, "1.1", "Host: p", "Content-Length: +1"), (400, "1.1", "Host: p", "Content-Length: 0x9"),
     (400, "1.1", "Host: p", "Content-Length: 9, 9"), (400, "1.1", "Host: p", "Content-Length: 9 9"),
@@ -40,7 +41,7 @@ REFUSED_FIELDS = (
 
 
 def next_of(line: socket.socket, seconds: float) -> bytes:
-    """What comes next on a connection within so many seconds: nothing where it is closed, or nothing comes."""
+    """Returns what comes next over a connection within some seconds, or nothing if it is closed or nothing comes."""
     line.settimeout(seconds)
     try:
         return line.recv(4096)
@@ -56,24 +57,24 @@ class TestServer(checks.Checked):
     needs = (Server,)
 
     def test_three_nodes(self) -> None:
-        """Sagas that close and cancel, deadlines, and clients that are slow; then a start over the same journals, and
-        one behind a kill -9."""
+        """Sagas close and cancel, deadlines pass, and clients are slow; then the server starts over the same journals,
+        and once more after a kill -9."""
         server, part = self.server(3).wait_until_up(), self.participant()
         lra = self.closes(server, part)
         trip = self.cancels(server, part)
         late = server.begin(1, limit=700)
-        self.check("a deadline that passes cancels", server.comes_to(1, late, "Cancelled", 5) is not None,
+        self.check("an LRA is cancelled at its deadline", server.comes_to(1, late, "Cancelled", 5) is not None,
                    server.status(1, late))
         foreign = server.begin(2)
         joined = comes_to(15, lambda: server.join(1, foreign, compensate=part.url)[0] == 421)
-        self.check("another node's LRA can be joined at its home alone", joined)
+        self.check("another node's LRA can be joined only at its home", joined)
         self.holds_nobody_up(server)
         ended = server.end()
-        self.check("it ends with its input", ended == (0, ""), ended)
+        self.check("it ends when its input does", ended == (0, ""), ended)
         self.starts_again(lra, trip)
 
     def closes(self, server: Server, part: Participant) -> str:
-        """An LRA that closes."""
+        """Plays an LRA that closes."""
         lra = server.begin(1)
         for name in ("flight", "hotel"):
             server.join(1, lra, compensate=f"{part.url}/{name}/c", complete=f"{part.url}/{name}/k")
@@ -86,7 +87,7 @@ class TestServer(checks.Checked):
         return lra
 
     def cancels(self, server: Server, part: Participant) -> str:
-        """An LRA that is cancelled, while one of its participants is down."""
+        """Plays an LRA that is cancelled while one of its participants is down."""
         part.calls.clear()
         trip = server.begin(1)
         for name in ("flight", "hotel", "car"):
@@ -95,16 +96,16 @@ class TestServer(checks.Checked):
         server.finish(1, trip, "cancel")
         time.sleep(1.5)
         again = part.paths().count("/hotel/c") >= 2 and server.status(1, trip) == "Cancelling"
-        self.check("one that is down is called again", again, part.calls)
+        self.check("a participant that is down is called again", again, part.calls)
         part.answers.clear()
         back = server.comes_to(1, trip, "Cancelled", 10) is not None
-        self.check("it is compensated when that one is back", back, server.status(1, trip))
+        self.check("the LRA is compensated when that participant is back", back, server.status(1, trip))
         order = part.paths()
-        self.check("last to first", order[0] == "/car/c" and order[-1] == "/flight/c", order)
+        self.check("participants compensate last to first", order[0] == "/car/c" and order[-1] == "/flight/c", order)
         return trip
 
     def holds_nobody_up(self, server: Server) -> None:
-        """Half a request, silent connections, and a body that is too long."""
+        """Checks that half a request, silent connections and a body that is too long delay no other client."""
         address = server.address(1)
         with contextlib.ExitStack() as open_ones:
             stopped = open_ones.enter_context(socket.create_connection(address))
@@ -113,7 +114,7 @@ class TestServer(checks.Checked):
                 open_ones.enter_context(socket.create_connection(address))
             began = time.time()
             quick = server.ask(1, "GET", "/lra")[0] == 200 and time.time() - began < 1
-            self.check("half a request and eight silent connections hold nobody up", quick, time.time() - began)
+            self.check("half a request and eight silent connections delay no other client", quick, time.time() - began)
             stopped.settimeout(9)
             closed = stopped.recv(10) == b"" and time.time() - began < 8
             self.check("half a request is closed after five seconds", closed, time.time() - began)
@@ -121,13 +122,13 @@ class TestServer(checks.Checked):
             with contextlib.suppress(OSError):
                 long_body.sendall(b"POST /lra HTTP/1.1\r\nHost: p\r\nContent-Length: 70000\r\n\r\n" + b"a" * 70000)
             long_body.settimeout(5)
-            self.check("a body that is too long is told so", long_body.recv(100).startswith(b"HTTP/1.1 413 "))
+            self.check("a body that is too long is refused", long_body.recv(100).startswith(b"HTTP/1.1 413 "))
 
     def starts_again(self, lra: str, trip: str) -> None:
-        """Starts over the same folder, and once more behind a kill -9."""
+        """Starts the server over the same folder, and once more after a kill -9."""
         server = self.server(3).wait_until_up()
         shown = server.status(1, lra), server.status(1, trip)
-        self.check("a start shows what was", shown == ("Closed", "Cancelled"), shown)
+        self.check("after a restart it shows what it showed before", shown == ("Closed", "Cancelled"), shown)
         began = server.begin(1)
         server.kill()
         server = self.server(3).wait_until_up()
@@ -138,8 +139,8 @@ class TestServer(checks.Checked):
             self.is_whole(f"{self.folder}/node-{node}.db", node)
 
     def test_listeners(self) -> None:
-        """Who joined for the end alone, or beside the rest, hears of it once its LRA has ended for good; a purge waits
-        for them."""
+        """A participant that joined only for the end, or also for it, is notified once its LRA has ended for good, and
+        a purge waits for that."""
         server, part = self.server(2).wait_until_up(), self.participant()
         part.answers = {"/mail": 503, "/hotel/a": 404}
         trip = server.begin(1)
@@ -149,34 +150,35 @@ class TestServer(checks.Checked):
                     after=f"{part.url}/hotel/a")
         asked = server.join(1, trip, after=f"{part.url}/mail", status=f"{part.url}/s")
         refused = asked[0], asked[1].get("refused")
-        self.check("a link for the status asks for one to compensate", refused == (400, "E1 BadText"), asked)
+        self.check("a status link needs a compensate link", refused == (400, "E1 BadText"), asked)
         time.sleep(0.5)
-        self.check("nobody hears of an end before it", not part.ends(), part.ends())
+        self.check("no listener is notified before the end", not part.ends(), part.ends())
         server.finish(1, trip)
         shown = server.comes_to(1, trip, "Closed", 5) is not None
-        self.check("an LRA closes before its listeners have heard", shown, server.status(1, trip))
-        self.check("both hear of it", comes_to(5, lambda: {end.path for end in part.ends()} == {"/mail", "/hotel/a"}),
+        self.check("an LRA closes before its listeners are notified", shown, server.status(1, trip))
+        self.check("both listeners are notified",
+                   comes_to(5, lambda: {end.path for end in part.ends()} == {"/mail", "/hotel/a"}),
                    part.ends())
         right = {("PUT", path, f"urn:uuid:{trip}", "text/plain", b"Closed") for path in ("/mail", "/hotel/a")}
         heard = {(end.method, end.path, end.fields["Long-Running-Action-Ended"], end.fields.get("Content-Type"),
                   end.body) for end in part.ends()}
-        self.check("by the LRA and what it shows", heard == right, part.ends())
+        self.check("the calls have the LRA and its status", heard == right, part.ends())
         purge = server.purge(1, trip)
         refused = purge[0], purge[1].get("refused")
-        self.check("a purge waits while one has not answered", refused == (409, "E24 StillToTell 1.1 1"), purge)
+        self.check("a purge waits while a listener hasn't answered", refused == (409, "E24 StillToTell 1.1 1"), purge)
         again = comes_to(10, lambda: [end.path for end in part.ends()].count("/mail") >= 3)
-        self.check("they are told again", again, part.ends())
+        self.check("they are notified again", again, part.ends())
         server.kill()
         part.answers = {"/hotel/a": 410}
         server = self.server(2).wait_until_up()
         purged = comes_to(10, lambda: server.purge(1, trip)[0] == 204)
-        self.check("they are told after a kill -9", purged, server.purge(1, trip))
+        self.check("they are notified after a kill -9", purged, server.purge(1, trip))
         self.hear_of_both(server, part)
         ended = server.end()
-        self.check("and it ends", ended == (0, ""), ended)
+        self.check("it ends", ended == (0, ""), ended)
 
     def hear_of_both(self, server: Server, part: Participant) -> None:
-        """An LRA that is closed in another, which is cancelled: all hear of that end alone."""
+        """Cancels an LRA with another one that is closed inside it: all listeners are notified only of that end."""
         count = len(part.ends())
         dinner = server.begin(1)
         server.join(1, dinner, after=f"{part.url}/mail")
@@ -185,19 +187,21 @@ class TestServer(checks.Checked):
         server.finish(1, table)
         time.sleep(0.7)
         waits = server.status(1, table) == "Closed" and len(part.ends()) == count
-        self.check("a nested LRA that is closed may still be cancelled: nobody hears yet", waits, part.ends()[count:])
+        self.check("a nested LRA that is closed may still be cancelled: no listener is notified yet", waits,
+                   part.ends()[count:])
         server.finish(1, dinner, "cancel")
         both = {("/mail", b"Cancelled"), ("/table/a", b"Cancelled")}
         heard = comes_to(10, lambda: {(end.path, end.body) for end in part.ends()[count:]} == both)
-        self.check("all hear that both were cancelled", heard, part.ends()[count:])
+        self.check("all are notified that both were cancelled", heard, part.ends()[count:])
         of_table = [path for path in part.paths() if path.startswith("/table")]
-        self.check("the participant was compensated before it heard", of_table == ["/table/c", "/table/a"], part.calls)
+        self.check("the participant was compensated before it was notified", of_table == ["/table/c", "/table/a"],
+                   part.calls)
         time.sleep(1)
-        self.check("each heard once, where it answered", len(part.ends()) == count + 2, part.ends()[count:])
+        self.check("each listener that answered was notified once", len(part.ends()) == count + 2, part.ends()[count:])
 
     def test_written_earlier(self) -> None:
-        """Journals that an earlier program wrote (tests/data/journal-1) are opened, and show what that program showed;
-        then they are of version 2, and opened again."""
+        """Journals that an earlier program wrote (tests/data/journal-1) open and show what that program showed. Then
+        they have version 2, and open again."""
         for node in (1, 2):
             shutil.copy(f"{JOURNALS}/node-{node}.db", self.folder)
         with open(f"{JOURNALS}/shown.json", encoding="utf-8") as file:
@@ -212,14 +216,14 @@ class TestServer(checks.Checked):
                 right = {"status": row.get("status", row.get("refused")), "members": row.get("members", {})}
                 self.check(f"a journal of version {version}: node {node}, {row['what']}", seen == right, seen)
             ended = server.end()
-            self.check("and it ends", ended == (0, ""), ended)
+            self.check("it ends", ended == (0, ""), ended)
             for node in (1, 2):
                 with contextlib.closing(sqlite3.connect(f"{self.folder}/node-{node}.db")) as database:
                     front = database.execute("SELECT held, purged FROM front WHERE origin = 0").fetchall()
-                self.check(f"then the journal of node {node} is of version 2", front == [(node, 2)], front)
+                self.check(f"the journal of node {node} has version 2 then", front == [(node, 2)], front)
 
     def test_hanging(self) -> None:
-        """One that takes connections and never answers, in eight LRAs, beside one that answers."""
+        """A participant accepts connections and never answers, in eight LRAs, beside one that answers."""
         server, part = self.server(1).wait_until_up(), self.participant()
         with socket.create_server((HOST, 0), backlog=64) as silent:
             links = [f"http://{HOST}:{silent.getsockname()[1]}/k"] * 8 + [f"{part.url}/k"]
@@ -230,18 +234,18 @@ class TestServer(checks.Checked):
             began = time.time()
             is_called = comes_to(30, lambda: part.calls)
             took = time.time() - began
-            self.check(f"one that hangs in eight LRAs holds up no other (called after {took:.1f} seconds)",
+            self.check(f"a participant that hangs in eight LRAs delays no other (called after {took:.1f} seconds)",
                        is_called and took < 5, part.calls)
             shown = server.comes_to(1, lras[8], "Closed", 5) is not None
             self.check("the other's LRA is closed", shown, server.status(1, lras[8]))
             statuses = {server.status(1, lra) for lra in lras[:8]}
-            self.check("those of the one that hangs are closing", statuses == {"Closing"}, statuses)
+            self.check("the LRAs of the one that hangs are closing", statuses == {"Closing"}, statuses)
             began = time.time()
             ended = server.end()
             self.check("it ends while calls hang", ended == (0, "") and time.time() - began < 5, ended)
 
     def test_many(self) -> None:
-        """Thousands of requests by eight clients, and the end of the input amid some."""
+        """Eight clients make thousands of requests, and the input ends during some."""
         server, asked = self.server(1).wait_until_up(), 5000
         lost: list[str] = []
         lra = server.begin(1)
@@ -267,11 +271,11 @@ class TestServer(checks.Checked):
         time.sleep(0.1)
         ended = server.end()
         going.join()
-        self.check("the input ends while requests are under way", ended == (0, ""), ended)
+        self.check("it ends when its input does, though requests are under way", ended == (0, ""), ended)
 
     def test_lengths(self) -> None:
-        """Requests about as long as what a node looks at first (2 KiB), and as a head may be (16 KiB), in one piece and
-        in two."""
+        """Requests are about as long as the part that a node reads first (2 KiB), or as the longest head (16 KiB), in
+        one piece and in two."""
         server = self.server(1).wait_until_up()
         start, end = b"GET /lra HTTP/1.1\r\nHost: p\r\nX-Padding: ", b"\r\n\r\n"
         for length in (2_047, 2_048, 2_049, 4_096, 16_383, 16_384, 16_385):
@@ -283,10 +287,11 @@ class TestServer(checks.Checked):
                 what = f"{length:,} bytes, cut at {cut:,}: {wanted[9:12].decode()}"
                 self.check(what, answer.startswith(wanted), answer[:80])
         ended = server.end()
-        self.check("it ends with its input", ended == (0, ""), ended)
+        self.check("it ends when its input does", ended == (0, ""), ended)
 
     def is_told_soon(self, server: Server, what: str, wanted: bytes, *pieces: bytes, ends: bool = False) -> None:
-        """Whether a client that sends these pieces, and then nothing, is answered so at once. It may shut its side."""
+        """Checks that a client that sends these pieces, and then nothing, gets this answer at once. It may shut down
+        its side."""
         with socket.create_connection(server.address(1)) as line:
             for number, piece in enumerate(pieces):
                 time.sleep(0.05 if number else 0)
@@ -296,32 +301,34 @@ class TestServer(checks.Checked):
             began = time.monotonic()
             answer = next_of(line, 9)
             took = time.monotonic() - began
-        self.check(f"{what}: {wanted[9:12].decode()}", answer.startswith(wanted) and took < 3, (answer[:80], took))
+        self.check(f"{what}: {wanted[9:12].decode()} at once", answer.startswith(wanted) and took < 3,
+                   (answer[:80], took))
 
     def test_refused_heads(self) -> None:
-        """Heads that are refused whatever comes behind them are answered at once: where the body that they state never
-        comes, and where they have no end."""
+        """Heads that are refused whatever comes behind them are answered at once, even if the body that they state
+        never comes, or they have no end."""
         server = self.server(1).wait_until_up()
         for code, version, *lines in REFUSED_FIELDS:
             head, wanted = head_with(version, *lines), f"HTTP/1.1 {code} ".encode()
             what = f"version {version}, {'; '.join(lines)}"
             self.is_told_soon(server, what, wanted, head)
             self.is_told_soon(server, f"{what}; in two pieces", wanted, head[:-7], head[-7:])
-            self.is_told_soon(server, f"{what}; told to go on", wanted, head[:-2] + b"Expect: 100-continue\r\n\r\n")
+            self.is_told_soon(server, f"{what}; waiting for 100 Continue", wanted,
+                              head[:-2] + b"Expect: 100-continue\r\n\r\n")
         bad = head_with("1.1", "Host: p", "X-Padding: " + "a" * 60, "Bad Name: x")[:-2]
         many = head_with("1.1", "Host: p", *["X: a"] * 64)[:-2]
         for what, wanted, text in (("a bad line", b"HTTP/1.1 400 ", bad), ("65 lines", b"HTTP/1.1 431 ", many)):
             for ends in (False, True):
-                where = "at the end of what comes" if ends else "and nothing more comes"
+                where = "and the client shuts down its side" if ends else "and nothing more comes"
                 self.is_told_soon(server, f"{what}, {where}", wanted, text, ends=ends)
         for version, *lines in (("1.0", "Content-Length: 2"), ("1.1", "Host: p", "Content-Length: 002")):
             answer = exchange(server.address(1), head_with(version, *lines), b"{}", pause=0.2)
-            self.check(f"version {version}, {'; '.join(lines)}: the body is waited for",
+            self.check(f"version {version}, {'; '.join(lines)}: it waits for the body",
                        answer.startswith(b"HTTP/1.1 201 "), answer[:80])
-        self.same("it ends with its input", (0, ""), server.end())
+        self.same("it ends when its input does", (0, ""), server.end())
 
     def test_slow_garbage(self) -> None:
-        """Twelve clients send bad heads without an end, and then a byte now and then: they hold nobody up."""
+        """Twelve clients send bad heads without an end, and then a byte now and then: they delay no other client."""
         server = self.server(1).wait_until_up()
         bad = head_with("1.1", "X-Padding: " + "a" * 60, "Bad Name: x")[:-2]
         ended = threading.Event()
@@ -348,11 +355,11 @@ class TestServer(checks.Checked):
             times.append(time.monotonic() - began)
         ended.set()
         sender.join()
-        self.check(f"a question takes {max(times):.2f} s at most", max(times) < 1, times)
-        self.same("it ends with its input", (0, ""), server.end())
+        self.check(f"a read takes at most {max(times):.2f} s", max(times) < 1, times)
+        self.same("it ends when its input does", (0, ""), server.end())
 
     def test_expected(self) -> None:
-        """Clients that send a body only once they are told to."""
+        """Clients send a body only after 100 Continue."""
         server = self.server(1).wait_until_up()
         long_body = b'{"x":"' + b"a" * 20_000 + b'"}'
         for body in (b"{}", long_body):
@@ -370,11 +377,11 @@ class TestServer(checks.Checked):
                 self.check(f"{what}: then the answer", next_of(line, 9).startswith(b"HTTP/1.1 201 "))
         whole = head_with("1.1", "Host: p", "Expect: 100-continue", "Content-Length: 2") + b"{}"
         answer = exchange(server.address(1), whole)
-        self.check("a body that comes with its head: the answer alone", answer.startswith(b"HTTP/1.1 201 "), answer)
-        self.same("it ends with its input", (0, ""), server.end())
+        self.check("a body that comes with its head: only the answer", answer.startswith(b"HTTP/1.1 201 "), answer)
+        self.same("it ends when its input does", (0, ""), server.end())
 
     def is_led(self, server: Server, what: str, head: bytes, cut: int, body: bytes) -> None:
-        """Whether a client that waits for a word hears it once, and then the answer."""
+        """Checks that a client that waits for 100 Continue receives it once, and then the answer."""
         with socket.create_connection(server.address(1)) as line:
             for piece in (head[:cut], head[cut:]):
                 line.sendall(piece)
@@ -383,23 +390,23 @@ class TestServer(checks.Checked):
             line.sendall(body)
             answer = b"".join(iter(lambda: next_of(line, 9), b""))
         is_so = seen == (CONTINUE, b"") and answer.startswith(b"HTTP/1.1 201 ") and b" 100 " not in answer
-        self.check(f"{what}: told to go on, once, and then answered", is_so, (seen, answer[:80]))
+        self.check(f"{what}: 100 Continue once, and then the answer", is_so, (seen, answer[:80]))
 
     def end_of_one(self, nodes: int, folder: str, ports: list[int] | None = None) -> tuple[int, str]:
-        """How a server ends that ends by itself."""
+        """Returns how a server ends that ends by itself."""
         server = self.server(nodes, folder, ports=ports)
         server.process.wait(20)
         return server.end()
 
     def test_refusals(self) -> None:
-        """Ports, folders, journals and words with which it doesn't start."""
+        """With ports in use, missing folders, foreign journals or wrong arguments the program doesn't start."""
         ports = free_row(2)
         with socket.create_server((HOST, ports[1])):
             ended = self.end_of_one(2, self.folder, ports)
         wanted = 1, f"node 2: can't listen on port {ports[1]}: it is in use\nport {ports[1]}\n"
         self.check("a port in use", ended == wanted, ended)
         ended = self.end_of_one(1, f"{self.folder}/none")
-        self.check("a folder that isn't there", ended == (1, NO_FOLDER), ended)
+        self.check("a missing folder", ended == (1, NO_FOLDER), ended)
         other = self.folder_in("other")
         for file in os.listdir(self.folder):
             if file.startswith("node-2.db"):
@@ -413,7 +420,7 @@ class TestServer(checks.Checked):
         for words in others:
             ran = subprocess.run([Server.program, *words], stdin=subprocess.DEVNULL, capture_output=True)
             is_usage = ran.returncode == 2 and ran.stderr.startswith(b"usage: ")
-            self.check("other arguments: " + " ".join(words), is_usage, ran)
+            self.check("wrong arguments: " + " ".join(words), is_usage, ran)
 
 
 def main() -> int:

@@ -1,10 +1,11 @@
 #!/usr/bin/env python3
-"""Tests the participants of demo/ in each language that is installed: python3 tests/services.py [PROGRAM]. Each joins
-an LRA with all links, is told to complete, and hears of the end; and another, which it compensates. Then what
-docs/HTTP.md says of the lengths that Node.js and Java state, and what its readers stumbled over: an answer without a
-length, a member that is misspelt, a link that is too long or at https, an LRA that nobody ends. PROGRAM is
-crates/lra_node/out/lra_node, or --unproved (tools/unproved.py). Each check prints a line; the status is 1 where one
-fails. Standard library alone."""
+"""Tests the participants of demo/ in each language that is installed: python3 tests/services.py [PROGRAM].
+
+Each joins an LRA with all links, is called to complete, and is notified of the end; and joins another, which it
+compensates. Then it tests what docs/HTTP.md says of the lengths that Node.js and Java state, and frequent mistakes: an
+answer without a length, a misspelt member, a link that is too long or uses https, an LRA that nobody ends. PROGRAM is
+crates/lra_node/out/lra_node, or --unproved (tools/unproved.py). Each check prints a line. Exits with 1 if a check
+fails. Uses only the standard library."""
 import contextlib
 import http.client
 import os
@@ -20,7 +21,7 @@ from tools.ports import HOST, free_row, is_open
 from tools.repo import TOP
 
 
-# Services that answer a path of their own each, in the ways that a service's author may choose.
+# Services whose paths are each answered in another of the ways that an author may choose.
 NODE = """
 require("http").createServer((request, response) => {
   if (request.url === "/head") { response.writeHead(200); response.end(); }
@@ -43,7 +44,7 @@ class Lengths {
     }
 }
 """
-# Services that state no length in their first two answers, and do so then. Each tells of each call.
+# Services that state no length in their first two answers, but do so later. They print each call.
 MENDED_NODE = """
 let calls = 0;
 require("http").createServer((request, response) => {
@@ -86,7 +87,7 @@ http.server.HTTPServer(("127.0.0.1", int(sys.argv[1])), Handler).serve_forever()
 
 
 def states_length(port: int, path: str) -> bool:
-    """Whether an answer states a length: then it counts."""
+    """Whether an answer states a length, so that it counts."""
     with contextlib.closing(http.client.HTTPConnection(HOST, port, timeout=10)) as connection:
         connection.request("PUT", path, headers={"Connection": "close"})
         response = connection.getresponse()
@@ -98,9 +99,9 @@ class TestServices(checks.Checked):
     needs = (Server,)
 
     def states(self, command: list[str], name: str, wanted: dict[str, bool]) -> None:
-        """Which of the answers of a service state a length."""
+        """Checks which answers of a service state a length."""
         if not shutil.which(command[0]):
-            self.skipTest(f"there is no {command[0]}")
+            self.skipTest(f"{command[0]} isn't installed")
         port = free_row(1)[0]
         service = subprocess.Popen([*command, str(port)], stdin=subprocess.DEVNULL)
         try:
@@ -109,10 +110,11 @@ class TestServices(checks.Checked):
         finally:
             service.kill()
             service.wait()
-        self.check(f"{name} states a length just where the page says so", seen == wanted, seen)
+        self.check(f"{name} states a length exactly where the page says so", seen == wanted, seen)
 
     def ends(self, server: Server, url: str, word: str) -> tuple[str, str | None]:
-        """An LRA that a participant joins and that ends so. Its id, and what is shown of it once it is purged."""
+        """Lets a participant join an LRA, and ends that. Returns the LRA's id, and what is shown of it once it is
+        purged."""
         lra = server.begin(1, limit=600_000)
         server.join(1, lra,
                     **{name: f"{url}/{name}" for name in ("complete", "compensate", "status", "forget", "after")})
@@ -123,7 +125,7 @@ class TestServices(checks.Checked):
 
     def is_called(self, command: str, file: str) -> None:
         if not shutil.which(command):
-            self.skipTest(f"there is no {command}")
+            self.skipTest(f"{command} isn't installed")
         server, port = self.server(1).wait_until_up(), free_row(1)[0]
         with tempfile.TemporaryFile("w+") as out:
             service = subprocess.Popen([command, f"{TOP}/demo/{file}", str(port)], stdout=out, stdin=subprocess.DEVNULL)
@@ -139,9 +141,9 @@ class TestServices(checks.Checked):
         wanted = {f"PUT /complete urn:uuid:{closed}", f"PUT /compensate urn:uuid:{cancelled}"}
         wanted |= {"PUT /after  Closed", "PUT /after  Cancelled"}
         is_so = lines == wanted and first == second == "E3 NotHeld"
-        self.check(f"{file} is called, and all is purged then", is_so, (lines, first, second))
+        self.check(f"{file} is called, and then all is purged", is_so, (lines, first, second))
         ended = server.end()
-        self.check("nothing is told", ended == (0, ""), ended)
+        self.check("nothing is logged", ended == (0, ""), ended)
 
     def test_python(self) -> None:
         self.is_called("python3", "participant.py")
@@ -164,7 +166,7 @@ class TestServices(checks.Checked):
     def is_mended(self, command: list[str], name: str) -> None:
         """A service is called again until it states the length of its answer; then its LRA ends."""
         if not shutil.which(command[0]):
-            self.skipTest(f"there is no {command[0]}")
+            self.skipTest(f"{command[0]} isn't installed")
         server, port = self.server(1).wait_until_up(), free_row(1)[0]
         with tempfile.TemporaryFile("w+") as out:
             service = subprocess.Popen([*command, str(port)], stdout=out, stdin=subprocess.DEVNULL,
@@ -195,28 +197,29 @@ class TestServices(checks.Checked):
         self.is_mended([sys.executable, "-c", MENDED_PYTHON], "Python")
 
     def test_misspelt(self) -> None:
-        """A member that is misspelt is passed over, as the page says in bold; one that is spelt right counts."""
+        """A misspelt member is ignored, as the page says in bold, and a correctly spelt one counts."""
         server, part = self.server(1).wait_until_up(), self.participant()
         misspelt, limited = server.begin(1, timeLimit=5000), server.begin(1, limit=5000)
         for lra, word in ((misspelt, "confirm"), (limited, "complete")):
             joined = server.join(1, lra, **{word: f"{part.url}/{word}"}, compensate=f"{part.url}/cancel")[0]
             self.check(f"a join with {word}", joined == 200, joined)
         self.check("at its limit an LRA is cancelled", server.comes_to(1, limited, "Cancelled") is not None)
-        self.check("a misspelt limit is none", server.status(1, misspelt) == "Active")
+        self.check("a misspelt limit isn't a limit", server.status(1, misspelt) == "Active")
         server.finish(1, misspelt)
         self.check("a misspelt link isn't called", server.comes_to(1, misspelt, "Closed") is not None
                    and part.paths() == ["/cancel"], part.paths())
-        self.check("nothing is told", server.end() == (0, ""))
+        self.check("nothing is logged", server.end() == (0, ""))
 
     def test_links(self) -> None:
-        """A link that is too long or at https is refused, and a shorter one at http isn't."""
+        """A link that is too long or uses https is refused, and a shorter one at http isn't."""
         server = self.server(1).wait_until_up()
         lra, start = server.begin(1), "http://booking.travel.svc.cluster.local:8080/"
         seen = {link: server.join(1, lra, compensate=link) for link in
                 (start.ljust(135, "a"), start.ljust(128, "a"), "https://booking/cancel", start.ljust(127, "a"))}
         refused = [(status, answer.get("refused")) for status, answer in seen.values()]
-        self.check("links", refused == [(400, "E1 BadText")] * 3 + [(200, None)], refused)
-        self.check("no refusal made a member", list(seen.values())[-1][1]["member"] == 1, seen)
+        self.check("three links are refused, and one isn't", refused == [(400, "E1 BadText")] * 3 + [(200, None)],
+                   refused)
+        self.check("no refused join made a member", list(seen.values())[-1][1]["member"] == 1, seen)
         server.end()
 
 

@@ -1,24 +1,24 @@
-"""Has the prover refuse wrong bodies, many in one check: `python3 tests/wrong.py NAME..`, each NAME a crate, or `--all`
-for every crate. Crates are tried side by side, `--jobs N` of them: without it as many as there are processors, and 4 GB
-of memory free for each. With `--minutes N`, as `.ci/run` has it behind the gate, no check goes on longer. Each day
-begins with another crate, so that all have their turn; how many weren't tried is said, and is no failure.
+"""Checks that the prover refuses wrong bodies, many in one check: `python3 tests/wrong.py NAME..`, each NAME a crate,
+or `--all` for every crate. Crates are tried in parallel, `--jobs N` of them; by default one for each processor and for
+each 4 GB of free memory. With `--minutes N`, as `.ci/run` uses it behind the gate, no check goes on longer than that.
+Each day begins with another crate, so that all get their turn. It prints how many weren't tried, which is no failure.
 
-A wrong body is a file tests/wrong/NAME/WHAT.edit of the form that must-fail/ has: a line 'file: src/x.rt', and pairs of
-lines 'old: TEXT' and 'new: TEXT', each TEXT one line that stands exactly once in the file. A line 'fn: PATH' names the
-function that has to be refused, as `front::Front::below`; without one it is the function in which the first changed
-line stands. With `--must-fail` those of crates/NAME/must-fail are tried instead, a quick control for who changes a
-crate.
+A wrong body is a file tests/wrong/NAME/WHAT.edit in the same form as in must-fail/: a line 'file: src/x.rt', and pairs
+of lines 'old: TEXT' and 'new: TEXT', each TEXT one line that stands exactly once in the file. A line 'fn: PATH' names
+the function that must be refused, such as `front::Front::below`; without it, that is the function in which the first
+changed line stands. With `--must-fail` those of crates/NAME/must-fail are tried instead, as a quick control after a
+change of a crate.
 
-Bodies of different functions stand in one copy of the crate, and one check tells of each function by itself: the prover
-prints which goals of its own are open. A function that is unproved only since another isn't proved counts as nothing,
-and so does a proof file that only misses a name which the edit took away. What is not refused so is tried once more,
-alone in a copy. Bodies of one function, or that change the same line, stand in different copies. `rattle check --only`
-proves those functions and what they call, over the libraries below the crate that stand built in crates/*/out/rlib, as
-`rt ci` leaves them in a clean clone. It builds none itself.
+Bodies of different functions share one copy of the crate, and one check reports on each function by itself: the prover
+prints which of its own goals are open. A function doesn't count if it is unproved only because another one isn't
+proved, nor does a proof file that only misses a name that the edit removed. A body that isn't refused in this way is
+tried once more, alone in a copy. Bodies of the same function, or that change the same line, go into different copies.
+`rattle check --only` proves those functions and what they call, over the libraries below the crate that are built in
+crates/*/out/rlib, as `rt ci` leaves them in a clean clone. It doesn't build any.
 
-A line a body, and last 'N refused, M not'; it ends with 0 if each that was tried is refused. Where
-crates/NAME/out/incremental has what `rt check` kept, a check begins with that; WHOLE=1 has it begin with nothing.
-SAID=FILE appends what the prover said to FILE-NAME."""
+It prints a line for each body, and last 'N refused, M not'. It exits with 0 if each body that was tried is refused. If
+crates/NAME/out/incremental has what `rt check` kept, a check begins with that; WHOLE=1 makes it begin with nothing.
+SAID=FILE appends the prover's output to FILE-NAME."""
 import concurrent.futures
 import math
 import os
@@ -36,21 +36,20 @@ from tools import prover, repo
 from tools.repo import TOP, Crates
 
 PARTS = ("src", "specs", "proofs")
-# What the prover says of a proof file that names what an edit took away, and of what cites that proof.
+# What the prover says of a proof file that names something that an edit removed, and of files that cite that proof.
 NAMES = re.compile(r"has no field|is not in scope|has no `|was not admitted|"
                    r"(was|were) rejected, (was|were) not checked")
 
-# Texts of files of a crate, by their paths there.
+# The texts of a crate's files, by their paths there.
 Texts = dict[str, str]
-# Whether an edit is refused, and why or why not.
+# Whether an edit is refused, and the reason.
 Verdict = tuple[bool, str]
-# Of each function that isn't proved by itself, the goals of its own that are open, and those of proof files that miss a
-# name.
+# For each function that isn't proved by itself: its own open goals, and the goals of proof files that miss a name.
 Goals = dict[str, tuple[list[str], list[str]]]
 
 
 class Edit:
-    """A wrong body: what it changes in which files, and the function that has to be refused."""
+    """A wrong body: what it changes in which files, and the function that must be refused."""
 
     def __init__(self, path: str, folder: str) -> None:
         self.name, self.folder = os.path.basename(path).removesuffix(".edit"), folder
@@ -81,7 +80,7 @@ class Edit:
         return repo.read(f"{self.folder}/{file}")
 
     def applied(self, texts: Texts) -> Texts | None:
-        """The texts with the edit, or nothing where an 'old:' doesn't stand there once."""
+        """Returns the texts with the edit, or `None` if an 'old:' text doesn't stand there exactly once."""
         made = dict(texts)
         for file, old, new in self.pairs:
             text = made.get(file) or self.text(file)
@@ -91,25 +90,25 @@ class Edit:
         return made
 
     def stands_in(self) -> str:
-        """The function in which the first changed line stands, by its path: the module of the file, or the type, and
-        the name."""
+        """Returns the path of the function in which the first changed line stands: the module of the file, or the type,
+        and the name."""
         file, old, _ = self.pairs[0]
         text = self.text(file)
         lines, place = text.split("\n"), text[: text.index(old)].count("\n")
         heads = ((at, repo.FUNCTION.match(lines[at])) for at in range(place, -1, -1))
         at, head = next(((at, head) for at, head in heads if head), (0, None))
         if head is None:
-            sys.exit(f"{self.name}: its first line stands in no function: add a line 'fn: PATH'")
+            sys.exit(f"{self.name}: its first changed line isn't in a function: add a line 'fn: PATH'")
         if head[1]:
-            # (a method stands in the module of its type, which may be another one: the end of its name will do)
+            # (a method's module is that of its type, which may be another one: the end of its name is enough)
             return f"{type_above(lines, at)}::{head[2]}"
         module = re.sub(r"^src/|(/mod)?\.rt$", "", file).replace("/", "::")
         return head[2] if module in ("lib", "main") else f"{module}::{head[2]}"
 
 
 def type_above(lines: list[str], at: int) -> str:
-    """The type whose method stands at a line, by the `impl` above it, and the trait's name behind it where it is a
-    trait's."""
+    """Returns the type of the method at a line, from the `impl` above it, followed by the trait's name if the method is
+    of a trait."""
     while not re.match(r"impl\b|pub trait\b|trait\b", lines[at]):
         at -= 1
     head = " ".join(line.strip() for line in lines[at : at + 12]).partition("{")[0]
@@ -119,7 +118,7 @@ def type_above(lines: list[str], at: int) -> str:
 
 
 def open_goals(text: str, name: str) -> Goals:
-    """The open goals of each function of a crate, by what the prover said."""
+    """Returns the open goals of each function of a crate, from the prover's output."""
     found: Goals = {}
     own: list[str] = []
     missing: dict[str, list[str]] = {}
@@ -140,13 +139,13 @@ def open_goals(text: str, name: str) -> Goals:
 
 
 class Copy:
-    """A copy of a crate that is to have some edits: no two of one function, nor of one line."""
+    """A copy of a crate that gets some edits: no two of the same function, and no two of the same line."""
 
     def __init__(self, edit: Edit) -> None:
         self.edits, self.texts = [edit], edit.applied({}) or {}
 
     def takes(self, edit: Edit) -> bool:
-        """Adds an edit, if it fits."""
+        """Adds an edit, if it fits. Returns whether it did."""
         texts = edit.applied(self.texts)
         if texts is None or edit.function in {other.function for other in self.edits}:
             return False
@@ -156,7 +155,7 @@ class Copy:
 
 
 def copies(edits: Iterable[Edit]) -> list[Copy]:
-    """The edits, shared out over as few copies as go."""
+    """Distributes the edits over as few copies as possible."""
     found: list[Copy] = []
     for edit in edits:
         if not any(copy.takes(edit) for copy in found):
@@ -165,7 +164,7 @@ def copies(edits: Iterable[Edit]) -> list[Copy]:
 
 
 def linked(old: str, new: str) -> None:
-    """Copies a file, by a link where that goes: a check replaces what is kept, and changes no file."""
+    """Copies a file, as a hard link if possible: a check replaces kept files and doesn't change them."""
     try:
         os.link(old, new)
     except OSError:
@@ -173,7 +172,7 @@ def linked(old: str, new: str) -> None:
 
 
 class Prover:
-    """Checks copies of a crate over the libraries that stand built, and over what is kept of other copies."""
+    """Checks copies of a crate over the built libraries, and over what was kept of other copies."""
 
     def __init__(self, kit: str, name: str, libraries: Crates, kept: str, deadline: float) -> None:
         self.kit, self.name, self.libraries, self.kept, self.deadline = kit, name, libraries, kept, deadline
@@ -182,13 +181,13 @@ class Prover:
         missing = [used for used, place in self.places.items() if not place]
         if missing:
             how = "run `rt ci` first, in this clone"
-            sys.exit(f"{name}: not tried: its libraries {', '.join(missing)} aren't built: {how}")
+            sys.exit(f"{name}: not tried, since its libraries {', '.join(missing)} aren't built: {how}")
         own = f"{self.folder}/out/incremental"
         if os.path.isdir(own) and "WHOLE" not in os.environ:
             shutil.copytree(own, kept, copy_function=linked, dirs_exist_ok=True)
 
     def check(self, copy: Copy) -> str | None:
-        """What the prover says of a copy, or nothing where the deadline comes first."""
+        """Returns the prover's output for a copy, or `None` if the deadline comes first."""
         left = None if self.deadline == math.inf else self.deadline - time.time()
         if left is not None and left <= 0:
             return None
@@ -214,18 +213,18 @@ class Prover:
         return ran.stdout
 
     def verdicts(self, copy: Copy) -> dict[str, Verdict]:
-        """Of each edit of a copy, whether it is refused there, and why or why not; of none behind the deadline."""
+        """Returns for each edit of a copy whether it is refused there, and the reason. Empty after the deadline."""
         text = self.check(copy)
         if text is None:
             return {}
         if not re.search(r"^only=\d+ proved=\d+", text, re.M):
             first = next((line for line in text.split("\n") if "error" in line), text[:200])
-            return {edit.name: (False, f"the check told nothing: {first[:200]}") for edit in copy.edits}
+            return {edit.name: (False, f"the check gave no result: {first[:200]}") for edit in copy.edits}
         found = open_goals(text, self.name)
         return {edit.name: verdict(edit, found) for edit in copy.edits}
 
     def each_tried(self, edits: list[Edit]) -> Iterator[tuple[Edit, Verdict]]:
-        """Each edit of the crate in turn, but those that the deadline leaves out."""
+        """Tries each edit of the crate in turn, except those that the deadline leaves out."""
         found: dict[str, Verdict] = {}
         for copy in copies(edits):
             found.update(self.verdicts(copy))
@@ -242,14 +241,14 @@ class Prover:
 
 
 def verdict(edit: Edit, found: Goals) -> Verdict:
-    """Whether an edit is refused, by the open goals."""
+    """Decides from the open goals whether an edit is refused."""
     its = [goals for path, goals in found.items() if path == edit.function or path.endswith(f"::{edit.function}")]
     own, missing = [goal for goals, _ in its for goal in goals], [goal for _, goals in its for goal in goals]
     if own:
         return True, f"at {edit.function}: {own[0][:150]}"
     if missing:
-        return False, f"only a proof file names what it took away: {missing[0][:150]}"
-    return False, "no goal of its own is open" if its else f"the prover told nothing of {edit.function}"
+        return False, f"only a proof file names what it removed: {missing[0][:150]}"
+    return False, "no goal of its own is open" if its else f"the prover said nothing about {edit.function}"
 
 
 class Tried(typing.NamedTuple):
@@ -260,7 +259,7 @@ class Tried(typing.NamedTuple):
 
 
 def of_crate(kit: str, name: str, libraries: Crates, edits: list[Edit], deadline: float) -> Tried:
-    """Tries a crate's edits up to the deadline, and prints a line of each."""
+    """Tries a crate's edits until the deadline, and prints a line for each."""
     began, count, missed = time.time(), 0, []
     with tempfile.TemporaryDirectory(prefix="wrong-kept-") as kept:
         for edit, (is_refused, why) in Prover(kit, name, libraries, kept, deadline).each_tried(edits):
@@ -272,23 +271,23 @@ def of_crate(kit: str, name: str, libraries: Crates, edits: list[Edit], deadline
 
 
 def most_jobs() -> int:
-    """How many crates are tried side by side: a check wants up to 4 GB."""
+    """Returns how many crates are tried in parallel: a check needs up to 4 GB."""
     free = repo.found(r"MemAvailable:\s+(\d+)", repo.read("/proc/meminfo"))[1]
     return max(1, min(os.cpu_count() or 1, int(free) // 4_000_000))
 
 
 def number_of(flag: str, words: list[str]) -> tuple[int | None, list[str]]:
-    """The number behind a flag, if it is there, and the other words."""
+    """Returns the number behind a flag, if it is there, and the other words."""
     if flag not in words:
         return None, words
     at = words.index(flag)
     if not words[at + 1 : at + 2] or not words[at + 1].isdigit() or words[at + 1] == "0":
-        sys.exit(f"{flag} wants a number")
+        sys.exit(f"{flag} needs a number")
     return int(words[at + 1]), words[:at] + words[at + 2 :]
 
 
 def in_turn(names: list[str]) -> list[str]:
-    """The names, beginning each day with another one, far from that of the day before."""
+    """Returns the names in an order that begins each day with another one, far from that of the day before."""
     first = 11 * int(time.time() // 86_400) % max(len(names), 1)
     return names[first:] + names[:first]
 
@@ -301,7 +300,7 @@ def main() -> int:
     names = [word for word in words if word not in flags]
     strange = [*(flags - {"--all", "--must-fail"}), *(set(names) - set(libraries))]
     if strange or not names and "--all" not in flags:
-        unknown = f"; not known: {' '.join(strange)}" if strange else ""
+        unknown = f"; unknown: {' '.join(strange)}" if strange else ""
         sys.exit(f"usage: python3 tests/wrong.py [--must-fail] [--jobs N] [--minutes N] --all | NAME..{unknown}")
     kit, began, spent = repo.kit(), time.time(), sum(os.times()[2:4])
     edits: dict[str, list[Edit]] = {}
@@ -321,7 +320,7 @@ def main() -> int:
     cost, left = sum(os.times()[2:4]) - spent, sum(map(len, edits.values())) - count
     print(f"{time.time() - began:.0f} seconds, {cost / 60:.1f} minutes of a processor")
     print(f"{count - len(missed)} refused, {len(missed)} not{': ' + ' '.join(missed) if missed else ''}"
-          f"{f'; {left} not tried, for want of time' if left else ''}")
+          f"{f'; {left} not tried, for lack of time' if left else ''}")
     return 1 if missed else 0
 
 
