@@ -1,7 +1,7 @@
 #!/usr/bin/env python3
-"""Measures what the gateway adds to each call of a service: python3 benches/gateway.py. One client asks a node, and
-then the same by a gateway beside it, over crates/lra_node/out/lra_node and crates/lra_gateway/out/lra_gateway. A
-minute; standard library alone."""
+"""Measures what the gateway adds to each call of a service: python3 benches/gateway.py. One client makes calls to a
+node, and then the same calls through a gateway beside it, with crates/lra_node/out/lra_node and
+crates/lra_gateway/out/lra_gateway. Takes a minute; uses only the standard library."""
 import contextlib
 import os
 import statistics
@@ -18,7 +18,7 @@ from tools.narayana import Annotated, Client
 from tools.node import Group
 from tools.operated import Operated
 
-# How many LRAs are begun, joined, closed and seen Closed each way.
+# How many LRAs are begun, joined, closed and seen Closed in each way.
 LRAS = 300
 STEPS = ("a begin", "a join", "a status", "a close", "from a close to Closed")
 
@@ -30,7 +30,7 @@ class Times:
         self.all: dict[str, list[float]] = {step: [] for step in STEPS}
 
     def of(self, step: str, call: Callable[..., typing.Any], *words: typing.Any) -> typing.Any:
-        """Makes a call, and notes how long it took."""
+        """Makes a call, and records how long it took."""
         began = time.monotonic()
         result = call(*words)
         self.all[step].append(1000 * (time.monotonic() - began))
@@ -46,7 +46,7 @@ def until_closed(status: Callable[[], object]) -> None:
 
 
 def at_a_node(group: Group, service: Annotated, times: Times) -> None:
-    """One LRA of a participant that completes, by a node's own interface."""
+    """Plays one LRA with a participant that completes, through a node's own interface."""
     lra = times.of("a begin", group.begin, 1)
     links = {"compensate": f"{service.base()}/compensate", "complete": f"{service.base()}/complete"}
     times.of("a join", lambda: group.join(1, lra, **links))
@@ -58,7 +58,7 @@ def at_a_node(group: Group, service: Annotated, times: Times) -> None:
 
 
 def by_the_gateway(client: Client, service: Annotated, times: Times) -> None:
-    """The same by the gateway, which waits for no end."""
+    """Plays the same through the gateway, which doesn't wait for the end."""
     lra = times.of("a begin", client.start)
     times.of("a join", client.join, lra, service.link())
     times.of("a status", client.status, lra)

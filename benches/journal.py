@@ -1,5 +1,5 @@
-"""What `benches/run.py journal` runs: its program beside the same statements by the C library, turn by turn. journal.py
-PROGRAM"""
+"""Compares the program of `benches/run.py journal`, which runs this, with the same statements by the C library, turn by
+turn. journal.py PROGRAM"""
 import os
 import sqlite3
 import statistics
@@ -20,13 +20,13 @@ ROWS = ("SELECT origin, held, purged FROM front ORDER BY origin", "SELECT home, 
 
 
 def ours(program: str, folder: str) -> dict[str, int]:
-    """What the program prints: microseconds by name."""
+    """Returns what the program prints: microseconds by name."""
     words = subprocess.run([program], cwd=folder, capture_output=True, text=True, check=True).stdout.split()
     return {name: int(micros) for name, micros in zip(words[::2], words[1::2])}
 
 
 def store(base: sqlite3.Connection, number: int, body: bytes, held: int) -> None:
-    """A commit as the program makes it."""
+    """Makes a commit like the program's."""
     base.execute("BEGIN")
     base.execute(LRA, (1, number, body))
     base.execute(FRONT, (1, held, 0))
@@ -35,14 +35,14 @@ def store(base: sqlite3.Connection, number: int, body: bytes, held: int) -> None
 
 
 def micros(act: Callable[[], object]) -> float:
-    """How many microseconds something takes."""
+    """Returns how many microseconds a call takes."""
     start = time.perf_counter()
     act()
     return (time.perf_counter() - start) * 1e6
 
 
 def theirs(folder: str) -> dict[str, float]:
-    """The same by the C library: WAL, synchronous FULL, and rows as long as the program's."""
+    """Returns the same by the C library: WAL, synchronous FULL, and rows as long as the program's."""
     with sqlite3.connect(f"{folder}/joins.db") as journal:
         bodies = [body for _, _, body in journal.execute(ROWS[1])]
     base = sqlite3.connect(f"{folder}/theirs.db", isolation_level=None)

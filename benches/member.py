@@ -1,7 +1,7 @@
 #!/usr/bin/env python3
-"""Measures members in processes of their own: python3 benches/member.py [PROGRAM]. How soon what one begins is shown by
-another, how many LRAs go through one home a second with keep=0, and what copies=K costs of three members. PROGRAM is
-crates/lra_node/out/lra_node. Two minutes; standard library alone."""
+"""Measures members in processes of their own: python3 benches/member.py [PROGRAM]. It measures how soon another node
+shows what one begins, how many LRAs a second go through one home with keep=0, and what copies=K costs with three
+members. PROGRAM is crates/lra_node/out/lra_node. Takes two minutes; uses only the standard library."""
 import multiprocessing
 import os
 import statistics
@@ -13,14 +13,14 @@ sys.path.insert(0, os.path.dirname(os.path.dirname(os.path.abspath(__file__))))
 from tools import checks, unproved
 from tools.node import Group
 
-# How many begins are looked for at the other node, how long nothing is stored before each, for how long LRAs go
-# through, and by how many clients.
+# How many begins are looked for at the other node, how many seconds nothing is stored before each, how many seconds
+# LRAs go through a home, and how many clients begin them.
 BEGINS, QUIET, SECONDS, CLIENTS = 100, 0.3, 10, 8
 
 
 def news(group: Group) -> None:
-    """From a begin at node 1, where nothing was stored for a while, to its being shown by node 2: the middle, and 99 of
-    100."""
+    """Measures from a begin at node 1, after some time without anything to store, until node 2 shows it: the median,
+    and the 99th percentile."""
     late = []
     for _ in range(BEGINS):
         lra = group.begin(1)
@@ -36,7 +36,7 @@ def news(group: Group) -> None:
 
 
 def begin_and_close(group: Group, until: float, counts: multiprocessing.Queue) -> None:
-    """Begins and closes LRAs until a moment. How many, and how many begins were E13."""
+    """Begins and closes LRAs until a moment. Reports how many, and how many begins were refused with E13."""
     done = full = 0
     while time.monotonic() < until:
         status, answer = group.ask(1, "POST", "/lra", {})
@@ -50,7 +50,7 @@ def begin_and_close(group: Group, until: float, counts: multiprocessing.Queue) -
 
 
 def flow(group: Group, clients: int) -> None:
-    """So many clients that begin and close at one node, which purges at once, beside another node."""
+    """Runs this many clients that begin and close LRAs at one node, which purges at once, beside another node."""
     counts: multiprocessing.Queue = multiprocessing.Queue()
     given = group, time.monotonic() + SECONDS, counts
     processes = [multiprocessing.Process(target=begin_and_close, args=given) for _ in range(clients)]
@@ -65,7 +65,8 @@ def flow(group: Group, clients: int) -> None:
 
 
 def begin_times(group: Group) -> str:
-    """How long a begin takes whose answer comes at once after another's: the middle, and 99 of 100."""
+    """Measures how long a begin takes that comes at once after another's answer: the median, and the 99th
+    percentile."""
     times = []
     for _ in range(2 * BEGINS):
         began = time.monotonic()
@@ -77,7 +78,7 @@ def begin_times(group: Group) -> str:
 
 
 def copying(copies: int) -> None:
-    """What it costs that other nodes have what is answered."""
+    """Measures what it costs that other nodes have what is answered."""
     with tempfile.TemporaryDirectory() as folder, Group(3, folder, "keep=0", f"copies={copies}") as group:
         group.start()
         while group.ask(1, "POST", "/lra", {})[0] != 201:

@@ -1,7 +1,7 @@
 #!/usr/bin/env python3
-"""Draws what costs grow with: `python3 benches/run.py all | tee FIGURES`, then `python3 benches/plot.py FIGURES` writes
-benches/figures.svg: cost against the size of a home, for each table that has one, both on logarithmic scales. Of
-several turns it takes the quietest. Standard library alone."""
+"""Draws how costs grow: `python3 benches/run.py all | tee FIGURES`, then `python3 benches/plot.py FIGURES` writes
+benches/figures.svg. It draws the cost against the size of a home, for each table that has one, both on logarithmic
+scales. Of several turns it uses the fastest. Uses only the standard library."""
 import math
 import os
 import re
@@ -12,7 +12,7 @@ from collections.abc import Iterable, Sequence
 sys.path.insert(0, os.path.dirname(os.path.dirname(os.path.abspath(__file__))))
 from tools import repo
 
-# Of each program and size: the nanoseconds of each line of the drawing.
+# For each line of a drawing, the nanoseconds at each size.
 Costs = dict[str, dict[int, float]]
 WIDTH, HEIGHT, EDGE = 300, 220, 46
 COLUMNS = 3
@@ -20,8 +20,8 @@ COLOURS = ("#0b6bcb", "#c2410c", "#2f7d32", "#7c3aed")
 
 
 class Drawing(typing.NamedTuple):
-    """A drawing: its program, its title, and of each line its name and the column with its nanoseconds. Of a row the
-    column `size` has how many LRAs the home has, and each column of `rows` that word."""
+    """A drawing: its program, its title, and the name of each line with the column of its nanoseconds. In a row the
+    column `size` has the number of LRAs in the home, and each column of `rows` must have that word."""
 
     program: str
     title: str
@@ -43,7 +43,7 @@ DRAWINGS = (
 
 
 def rows_of(text: str) -> dict[str, list[list[list[str]]]]:
-    """Of each program the rows of each turn, each as its words. What is told in words is left out."""
+    """Returns for each program the rows of each turn, each as its words. Lines of prose are left out."""
     found: dict[str, list[list[list[str]]]] = {}
     for head, body in re.findall(r"^== (\w+), turn \d+ of \d+\n(.*?)(?=^== |\Z)", text, re.M | re.S):
         rows = [line.split() for line in body.splitlines() if re.fullmatch(r"[a-z ]*[\d ]+", line.strip() or "-")]
@@ -52,8 +52,8 @@ def rows_of(text: str) -> dict[str, list[list[list[str]]]]:
 
 
 def costs_of(drawing: Drawing, turns: Iterable[list[list[str]]]) -> Costs:
-    """The least nanoseconds of each line at each size. A program may print several tables: the first row of a size and
-    a width counts, but for frames, whose rows with three columns are those of one record."""
+    """Returns the least nanoseconds of each line at each size. A program may print several tables: only the first row
+    of a size counts. For frames only rows with three columns count, which are those of one record."""
     width = 3 if drawing.program == "frame" else None
     found: Costs = {name: {} for name in drawing.lines}
     for rows in turns:
@@ -71,7 +71,7 @@ def costs_of(drawing: Drawing, turns: Iterable[list[list[str]]]) -> Costs:
 
 
 def spelled(nanos: float) -> str:
-    """A time as people write it."""
+    """Returns a time with a suitable unit."""
     for unit, most in (("ns", 1e3), ("us", 1e6), ("ms", 1e9)):
         if nanos < most:
             return f"{nanos * 1e3 / most:.3g} {unit}"
@@ -83,7 +83,7 @@ def text_at(x: float, y: float, text: str, more: str = "") -> str:
 
 
 def edges_of(title: str, floor: int, top: int) -> list[str]:
-    """A drawing's edges, its title, and the powers of ten between."""
+    """Returns a drawing's title, and the grid lines and labels for the powers of ten."""
     left, right, low, high = EDGE, WIDTH - 12, HEIGHT - 34, 30
     parts = [text_at(left, 18, title, 'font-weight="bold"')]
     for power in range(floor, top + 1):
@@ -94,7 +94,7 @@ def edges_of(title: str, floor: int, top: int) -> list[str]:
 
 
 def drawn(drawing: Drawing, costs: Costs) -> str:
-    """A drawing as a group of SVG."""
+    """Returns a drawing as a group of SVG."""
     left, right, low, high = EDGE, WIDTH - 12, HEIGHT - 34, 30
     all_costs = [cost for line in costs.values() for cost in line.values()]
     sizes = sorted({size for line in costs.values() for size in line})
@@ -119,7 +119,7 @@ def drawn(drawing: Drawing, costs: Costs) -> str:
 
 
 def side_by_side(drawings: Sequence[str]) -> str:
-    """The drawings side by side."""
+    """Returns the drawings side by side."""
     high = HEIGHT * math.ceil(len(drawings) / COLUMNS)
     parts = [f'<svg xmlns="http://www.w3.org/2000/svg" viewBox="0 0 {WIDTH * COLUMNS} {high}" font-family="sans-serif"'
              ' font-size="10">', '<rect width="100%" height="100%" fill="white"/>']

@@ -1,5 +1,5 @@
-"""What `benches/run.py pull` runs behind its program: pulls of the largest frame that full homes give, from the server,
-with its resident memory before, at most and after, by Linux's /proc. pull.py SERVER"""
+"""Measures pulls of the largest frame that full homes produce, from the server, with its resident memory before, at
+most and after, as Linux's /proc has it. `benches/run.py pull` runs this after its program. pull.py SERVER"""
 import os
 import sys
 import tempfile
@@ -34,7 +34,7 @@ def main() -> int:
         with Server(NODES, folder, stderr=None) as server:
             time.sleep(45)
             now, most = memory_of(server.process, "VmRSS"), memory_of(server.process)
-            print(f"behind a start over such journals: MiB {now:.1f}, at most {most:.1f}")
+            print(f"after a start over such journals: MiB {now:.1f}, at most {most:.1f}")
             server.end()
     return 0
 

@@ -1,22 +1,22 @@
 #!/usr/bin/env python3
-"""Runs benchmarks: `python3 benches/run.py NAME..`, or `all`. It proves and builds the programs of these names, some at
-a time, over the libraries that stand built in crates/*/out/rlib, as `rt ci` leaves them here or in the clone that BUILT
-names; and then runs one after another, TURNS times (3). All together take some 40 processor minutes. KEPT=FOLDER keeps
-the programs there, and takes those that it has. `--compile NAME..` looks instead whether they compile, without a
-proof or a library that stands built, in some 20 seconds each; .ci/run does so, so that none is found broken when it is
-needed.
+"""Runs benchmarks: `python3 benches/run.py NAME..`, or `all`. It proves and builds these programs, several at a time,
+over the libraries that are built in crates/*/out/rlib, as `rt ci` leaves them here or in the clone that BUILT names.
+Then it runs them one after another, TURNS times each (3). All together take some 40 processor minutes. KEPT=FOLDER
+keeps the programs there, and uses those that are there already. `--compile NAME..` only checks that they compile,
+without proofs and built libraries, in some 20 seconds each; .ci/run does so, so that no benchmark is found broken when
+it is needed.
 
-  status   what an LRA shows, by the records of its home and by the slow evaluators over the same facts
+  status   what an LRA shows, from the records of its home and by the slow evaluators over the same facts
   pages    a look-up in a home, and a record that is put before or behind all others
   prepare  a join that is prepared and applied, at homes of 16, 64 and 256 LRAs
   duties   the list of duties of a home of 16, 64 and 256 LRAs, as roots and as one tree of depth 8, by participants
-  merge    the merge of two replicas of a home, each with news of the other, and the union of the lists of their facts
-  frame    frames of 16, 64 and 256 records that are encoded and read, and one of a changed record that is taken
+  merge    the merge of two replicas of a home, each with new facts for the other, and the union of their facts
+  frame    frames of 16, 64 and 256 records that are encoded and read, and one of a changed record that is applied
   news     the frame of one changed record, by the index and by a look at each record
   pull     a frame of 256 records over readers and writers, beside bytes; and pulls of 34 MB from the built server
   world    runs of a world of 2 and 8 nodes, at homes of 16 and 256 LRAs
-  http     requests of 200 bytes, 1 KiB and 64 KiB, read from memory and through a buffer, and their parser alone
-  api      requests that a clerk serves from memory to memory, with a journal in memory, and their parser alone
+  http     requests of 200 bytes, 1 KiB and 64 KiB, read from memory and through a buffer, and only their parser
+  api      requests that a clerk serves from memory to memory, with a journal in memory, and only their parser
   journal  begins and joins stored in a file, and the opening of 2,048 LRAs, beside the C library"""
 import os
 import re
@@ -47,7 +47,7 @@ AT_ONCE = max((os.cpu_count() or 1) - 1, 1)
 
 
 def unbuilt(names: Iterable[str]) -> list[str]:
-    """The libraries below these programs that don't stand built."""
+    """Returns the libraries below these programs that aren't built."""
     libraries = repo.crates()
     used = {use for name in names for use in USES[name] if use in libraries}
     ours = {name for use in used for name in [use, *repo.below(use, libraries)]}
@@ -55,13 +55,13 @@ def unbuilt(names: Iterable[str]) -> list[str]:
 
 
 def ran(words: list[str], folder: str) -> str | None:
-    """What a tool says, if it refuses."""
+    """Runs a tool, and returns its output if it fails."""
     tool = subprocess.run(words, cwd=folder, stdout=subprocess.PIPE, stderr=subprocess.STDOUT, text=True)
     return f"{tool.stdout}{words[0]} ended with {tool.returncode}" if tool.returncode else None
 
 
 def build(kit: str, name: str, folder: str) -> str | None:
-    """Proves and builds the program of a name, and answers what the tools said where one refused it."""
+    """Proves and builds a program, and returns the tools' output if one fails."""
     crate, program, own = f"{folder}/bench_{name}", f"{folder}/{name}", f"bench_{name}"
     if os.path.exists(program):
         return None
@@ -79,7 +79,7 @@ def build(kit: str, name: str, folder: str) -> str | None:
 
 
 def run_turns(name: str, folder: str, turns: int) -> None:
-    """Runs a program so often, and what goes with it. That of the journal makes its files once, so journal.py runs it,
+    """Runs a program this often, and what belongs to it. The journal's program creates its files, so journal.py runs it
     in folders of its own."""
     for turn in range(1, turns + 1 if name != "journal" else 1):
         print(f"== {name}, turn {turn} of {turns}", flush=True)
@@ -108,7 +108,7 @@ def is_compiled(copy: str, name: str) -> bool:
 
 
 def compile_all(names: list[str]) -> int:
-    """Looks whether each of these programs compiles."""
+    """Checks whether each of these programs compiles, and returns the exit status."""
     with tempfile.TemporaryDirectory(prefix="benches-") as copy:
         repo.copy_crates(copy)
         with ThreadPoolExecutor(AT_ONCE) as pool:
@@ -127,7 +127,7 @@ def main() -> int:
         return compile_all(names)
     missing = unbuilt(names)
     if missing:
-        how = "run `rt ci` here first, or name the clone in which it ran by BUILT"
+        how = "run `rt ci` here first, or set BUILT to the clone in which it ran"
         sys.exit(f"{', '.join(missing)} aren't built: {how}")
     kit = repo.kit()
     with tempfile.TemporaryDirectory() as place:

@@ -1,4 +1,4 @@
-"""What benches/serve.sh runs."""
+"""The body of benches/serve.sh."""
 import json
 import os
 import re
@@ -24,9 +24,9 @@ NGINX = 18610
 PARTICIPANT = 18611
 CLIENT_PARTICIPANT = 18612
 LINK = f"http://{HOST}:{PARTICIPANT}/k"
-# How many commits a whole LRA of two participants is: begin, two joins, close, two reports, purge.
+# How many commits the life of an LRA with two participants takes: begin, two joins, close, two reports, purge.
 LIFE = 7
-# An nginx that gives a file of the size of a status.
+# The configuration of an nginx that serves a file of the size of a status.
 NGINX_FILE = """worker_processes auto; pid {folder}/nginx.pid; error_log {folder}/nginx.log; daemon off; user root;
 events {{ worker_connections 1024; }}
 http {{
@@ -38,13 +38,13 @@ http {{
 
 
 def started(nodes: int, folder: str) -> Server:
-    """A server at the ports of this script, with its journals in a folder of their own."""
+    """Starts a server at the ports of this script, with its journals in a folder of their own."""
     os.mkdir(folder)
     return Server(nodes, folder, range(PORT, PORT + nodes), stderr=None)
 
 
 class Rate(typing.NamedTuple):
-    """How many a second, and of one the median and the 99th percentile in milliseconds."""
+    """A rate per second, and the median and the 99th percentile of one call in milliseconds."""
 
     count: float
     middle: float
@@ -52,13 +52,13 @@ class Rate(typing.NamedTuple):
 
 
 def tell_rate(what: str, rate: Rate, clients: int) -> None:
-    """A line of the table."""
+    """Prints a line of the table."""
     count = f"{what:44} {clients} at a time {rate.count:9,.0f}/s"
     print(f"{count}   median {rate.middle:7.2f} ms   99% {rate.late:7.2f} ms", flush=True)
 
 
 def many(clients: int, times: int, act: Callable[[], object]) -> tuple[list[float], float]:
-    """Has so many threads act so often each; all times in seconds, and how many a second."""
+    """Has this many threads each make a call this often. Returns the seconds of each call, and the calls per second."""
     spans: list[float] = []
 
     def run() -> None:
@@ -77,7 +77,7 @@ def many(clients: int, times: int, act: Callable[[], object]) -> tuple[list[floa
 
 
 def commits(folder: str, clients: int, times: int) -> Rate:
-    """One-row commits by the C library: WAL, synchronous FULL, one connection a client."""
+    """Measures one-row commits by the C library: WAL, synchronous FULL, one connection for each client."""
     path = f"{folder}/commits.db"
     local = threading.local()
 
@@ -100,8 +100,8 @@ def commits(folder: str, clients: int, times: int) -> Rate:
 
 
 def bare(server: Server, method: str, path: str, node: int = 1, body: str = "") -> bytes:
-    """The bytes of one answer, over a plain socket: Python's http.client takes longer for a call than the server
-    does."""
+    """Returns the bytes of one answer, over a plain socket: Python's http.client takes longer for a call than the
+    server does."""
     while True:
         text = f"{method} {path} HTTP/1.1\r\nHost: p\r\nContent-Length: {len(body)}\r\n\r\n{body}"
         answer = exchange(server.address(node), text.encode())
@@ -110,27 +110,27 @@ def bare(server: Server, method: str, path: str, node: int = 1, body: str = "") 
 
 
 def begun(server: Server) -> str:
-    """An LRA that is begun over a plain socket."""
+    """Begins an LRA over a plain socket."""
     return repo.found(r"urn:uuid:([0-9a-f-]+)", bare(server, "POST", "/lra").decode())[1]
 
 
 def built_client(folder: str) -> str:
-    """The client of client.c, built."""
+    """Builds the client of client.c."""
     program = f"{folder}/client"
     subprocess.run(["cc", "-O2", "-pthread", "-o", program, f"{repo.TOP}/benches/client.c"], check=True)
     return program
 
 
 def lras(client: str, clients: int, what: str) -> Rate:
-    """LRAs by the client of client.c: begun and closed, or whole lives."""
+    """Measures LRAs with the client of client.c: begun and closed, or whole lives."""
     words = [client, str(PORT), str(CLIENT_PARTICIPANT), str(clients), "240", what]  # a home holds 256
     said = subprocess.run(words, stdout=subprocess.PIPE, check=True, text=True).stdout
     return Rate(*map(float, said.split()))
 
 
 class Measured(typing.NamedTuple):
-    """Requests by ab: a second, the median and the 99th percentile in milliseconds, and how many were answered
-    otherwise."""
+    """Requests by ab: the rate per second, the median and the 99th percentile in milliseconds, and how many got another
+    answer."""
 
     rate: float
     median: int
@@ -139,7 +139,7 @@ class Measured(typing.NamedTuple):
 
 
 def ab(url: str, clients: int, count: int) -> Measured:
-    """Requests by ab, one connection each."""
+    """Makes requests with ab, one connection each."""
     words = ["ab", "-q", "-n", str(count), "-c", str(clients), url]
     text = subprocess.run(words, capture_output=True, text=True, check=True).stdout
     median, late = (int(repo.found(rf"^\s*{percent}%\s+(\d+)", text, re.M)[1]) for percent in (50, 99))
@@ -148,7 +148,7 @@ def ab(url: str, clients: int, count: int) -> Measured:
 
 
 def statuses(server: Server, folder: str) -> None:
-    """Statuses beside nginx, which gives a file of the same size."""
+    """Measures statuses beside nginx, which serves a file of the same size."""
     lra = server.begin(1)
     os.mkdir(f"{folder}/www")
     repo.write(f"{folder}/www/lra", json.dumps({"lra": lra, "status": "Active"}, separators=(",", ":")))
@@ -172,7 +172,7 @@ def statuses(server: Server, folder: str) -> None:
 
 
 def durable(client: str, folder: str) -> None:
-    """Begins and closes, and whole LRAs, beside commits of the C library."""
+    """Measures begins and closes, and whole LRAs, beside commits of the C library."""
     kinds = {"pairs": ("a begin and a close (two commits)", 2), "lives": (f"a whole LRA ({LIFE} commits)", LIFE)}
     for kind, (what, of_one) in kinds.items():
         for clients in (1, 8):
@@ -183,7 +183,7 @@ def durable(client: str, folder: str) -> None:
 
 
 def takes_calls(called: list[float]) -> None:
-    """Has a participant over plain sockets answer each call that it is done, and note when it came."""
+    """Starts a participant over plain sockets that answers each call as done, and records when it came."""
 
     def run(listener: socket.socket) -> None:
         while True:
@@ -198,7 +198,7 @@ def takes_calls(called: list[float]) -> None:
 
 
 def delays(server: Server, called: list[float]) -> None:
-    """From a close to the participant's call, and from a begin at node 1 to its being shown by node 2."""
+    """Measures the time from a close to the participant's call, and from a begin at node 1 until node 2 shows it."""
     to_call, to_other = [], []
     for _ in range(50):
         time.sleep(0.2)
@@ -222,7 +222,7 @@ def delays(server: Server, called: list[float]) -> None:
 
 
 def full(server: Server, nodes: int) -> None:
-    """Fills each home with 256 LRAs of 8 participants, and then has one node change its run."""
+    """Fills each home with 256 LRAs of 8 participants, and then makes one node change its run."""
     fill_homes(server, 8, {"compensate": f"http://{HOST}:9/c"})
     lra = server.ask(1, "GET", "/lra")[1]["lras"][0]["lra"]
     memory = memory_of(server.process, "VmRSS")

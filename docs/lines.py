@@ -1,6 +1,6 @@
 #!/usr/bin/env python3
-"""Counts the lines of each layer and writes the table in docs/THEOREMS.md: python3 docs/lines.py. With --check it
-compares. Blank lines and comments are left out. Standard library alone."""
+"""Counts the lines of each layer, and writes the table in docs/THEOREMS.md: python3 docs/lines.py. With --check it
+compares instead. Blank lines and comments don't count. Uses only the standard library."""
 import os
 import re
 import sys
@@ -12,7 +12,7 @@ from tools import repo
 
 PAGE = "docs/THEOREMS.md"
 TESTS = ["test_answers", "test_calls", "test_script", "test_server"]
-# The crates of each layer, and last what they are.
+# The crates of each layer, followed by a description.
 LAYERS = [
     ("lra_node", "the program that runs nodes, and scripts"),
     ("lra_sim", "sim_node", "sim_runs", "sim_env", "the simulator"),
@@ -51,7 +51,7 @@ LAYERS = [
 
 
 class Counts(typing.NamedTuple):
-    """Lines of code, of contracts, of definitions and of proofs, and how many wrong bodies."""
+    """The lines of code, of contracts, of definitions and of proofs, and the number of wrong bodies."""
 
     code: int
     contracts: int
@@ -61,7 +61,7 @@ class Counts(typing.NamedTuple):
 
 
 def lines_of(pattern: str, mark: str) -> Iterator[str]:
-    """The lines of some files that are neither blank nor comments."""
+    """Yields the lines of some files that are neither blank nor comments."""
     for path in repo.files(pattern):
         for line in repo.read(path).splitlines():
             if line.strip() and not line.strip().startswith(mark):
@@ -69,7 +69,7 @@ def lines_of(pattern: str, mark: str) -> Iterator[str]:
 
 
 def code_and_contracts(pattern: str) -> tuple[int, int]:
-    """How many lines of some files are code, and how many contracts."""
+    """Returns how many lines of some files are code, and how many are contracts."""
     code = contracts = 0
     within = False
     for line in lines_of(pattern, "//"):
@@ -83,7 +83,7 @@ def code_and_contracts(pattern: str) -> tuple[int, int]:
 
 
 def count(crates: Iterable[str]) -> Counts:
-    """What some crates have together."""
+    """Returns the counts of some crates together."""
     of_code = [code_and_contracts(f"crates/{crate}/src/**/*.rt") for crate in crates]
     definitions = sum(1 for crate in crates for _ in lines_of(f"crates/{crate}/specs/**/*.antt", "--"))
     proofs = sum(1 for crate in crates for _ in lines_of(f"crates/{crate}/proofs/**/*.antt", "--"))
@@ -94,7 +94,7 @@ def count(crates: Iterable[str]) -> Counts:
 
 
 def table() -> str:
-    """The table, with the lines of tests last."""
+    """Returns the table, with the lines of tests last."""
     out = "| Crate | Code | Contracts | Definitions | Proofs | Wrong bodies |\n|---|---|---|---|---|---|\n"
     for *crates, what in LAYERS:
         numbers = " | ".join(f"{number:,}" for number in count(crates))

@@ -1,9 +1,9 @@
 #!/usr/bin/env python3
-"""Finds what has to be read to believe the headline: the definitions that the clause `headline` of World::step rests
-on, and then what the laws of progress rest on besides. With them go the types of the code that these speak of, each
-with its `impl Model`, which says what a contract sees of a value. It writes their files and lines into
-docs/THEOREMS.md: python3 docs/reading.py. With --check it compares, and with --list it prints each definition and type.
-Blank lines, comments and imports are left out. Standard library alone."""
+"""Finds what has to be read to believe the headline: the definitions below the clause `headline` of World::step, and
+then those that the laws of progress also need. It adds the types of the code that these mention, each with its `impl
+Model`, which says what a contract sees of a value. It writes their files and line counts into docs/THEOREMS.md: python3
+docs/reading.py. With --check it compares instead, and with --list it prints each definition and type. Blank lines,
+comments and imports don't count. Uses only the standard library."""
 import os
 import re
 import sys
@@ -15,13 +15,13 @@ from tools import repo
 
 PAGE = "docs/THEOREMS.md"
 CALL = "crates/script_world/src/world.rt", "step", "headline"
-# The types of that call: what it is called on, takes and answers.
+# The types of that call: its receiver, its argument and its result.
 TYPES = "World", "Event", "EventReply"
 # The libraries that are read, in reading order.
 CRATES = ["state_ids", "state_facts", "state_forest", "theory_history", "state_stamps", "state_replica", "wire_frames",
           "wire_pulls", "wire_callbacks", "script_world", "theory_progress", "state_journal", "state_book",
           "theory_trail"]
-# The laws of progress: each row counts what those before it don't.
+# The laws of progress. Each row counts what the rows before it don't.
 PROGRESS = "crates/theory_progress/src/laws.rt"
 TO_ITS_END = ["an_lra_ends_with_its_saga", "an_end_is_accepted", "open_participants_only_get_fewer",
               "after_so_many_ends_it_has_ended", "what_is_under_way_can_be_ended", "a_tree_goes_on_until_it_is_purged",
@@ -56,13 +56,13 @@ NAME = r"[A-Za-z_][A-Za-z0-9_']*"
 WORDS = {"abbrev", "unfoldable", "opaque", "inline", "pub", "record", "data", "noncomputable", "let", "in", "if",
          "then", "else", "where", "infixl"}
 
-# Where a definition stands: its file and its name. A type: its crate and its name.
+# The place of a definition: its file and its name. Of a type: its crate and its name.
 Place = tuple[str, str]
 Lines = list[str]
 
 
 def source(path: str) -> Iterator[str]:
-    """A file's lines without comments and imports."""
+    """Yields a file's lines without comments and imports."""
     for line in repo.read(path).split("\n"):
         line = line.split("--")[0].rstrip()
         if line.strip() and not re.match(r"\s*(ghost )?(pub )?(use|mod) ", line):
@@ -70,7 +70,7 @@ def source(path: str) -> Iterator[str]:
 
 
 def imports(path: str) -> dict[str, Place]:
-    """Each name that a file imports from a specs file: where it stands."""
+    """Returns the place of each name that a file imports from a specs file."""
     found = {}
     brought = r"use Rattle\.([a-z]+_[a-z]+)\.specs\.([A-Z]\w*)\.\{([^}]*)\}"
     for crate, module, names in re.findall(brought, repo.read(path)):
@@ -81,7 +81,7 @@ def imports(path: str) -> dict[str, Place]:
 
 
 def definitions(path: str) -> dict[str, Lines]:
-    """Each definition of a file: its name and its lines."""
+    """Returns each definition of a file: its name and its lines."""
     found: dict[str, Lines] = {}
     current = None
     for line in source(path):
@@ -94,7 +94,7 @@ def definitions(path: str) -> dict[str, Lines]:
 
 
 def variables(name: str, lines: Lines) -> set[str]:
-    """The names that a definition binds itself: what its patterns, functions and fields call so."""
+    """Returns the names that a definition binds itself, in its patterns, functions and fields."""
     bound: set[str] = set()
     for line in lines:
         if re.match(rf"{name}\b[^:]*=", line):
@@ -109,7 +109,7 @@ def variables(name: str, lines: Lines) -> set[str]:
 
 
 def cited(name: str, lines: Lines) -> set[str]:
-    """The names that a definition uses and doesn't bind."""
+    """Returns the names that a definition uses and doesn't bind."""
     text = re.sub(rf"\.{NAME}", "", "\n".join(lines))
     if "record {" in text:
         text = re.sub(rf"\b{NAME} = (?!=)", "", re.sub(r"\brecord {", "{", text))
@@ -117,7 +117,7 @@ def cited(name: str, lines: Lines) -> set[str]:
 
 
 def clause(path: str, function: str, wanted: str | None) -> str:
-    """The text of a clause that is read, or of a law's whole contract."""
+    """Returns the text of a clause, or of a law's whole contract."""
     text = repo.read(path)
     contract = re.split(rf"fn {function}\b", text)[1]
     if not wanted:
@@ -127,7 +127,7 @@ def clause(path: str, function: str, wanted: str | None) -> str:
 
 
 def block(lines: Lines, head: str) -> Lines:
-    """The item that begins with a line like this, up to its closing bracket."""
+    """Returns the item that begins with a line like this, up to its closing bracket."""
     found: Lines = []
     for line in lines:
         if found or re.match(head, line):
@@ -138,7 +138,7 @@ def block(lines: Lines, head: str) -> Lines:
 
 
 def code(path: str) -> Iterator[str]:
-    """A file of code, without comments, imports and attributes."""
+    """Yields the lines of a code file, without comments, imports and attributes."""
     for line in repo.read(path).split("\n"):
         line = line.split("//")[0].rstrip()
         if line.strip() and not re.match(r"\s*(#\[|(pub )?use |ghost use )", line):
@@ -157,7 +157,7 @@ Types = dict[Place, Type]
 
 
 def types() -> Types:
-    """Each type of the libraries."""
+    """Returns each type of the libraries."""
     found = {}
     for crate in CRATES:
         for path in repo.sources(crate):
@@ -169,7 +169,8 @@ def types() -> Types:
 
 
 def types_named(path: str, text: str, all_types: Types) -> list[Place]:
-    """The types of the libraries that a text of a file names: its own crate's, and those that it imports."""
+    """Returns the types of the libraries that a text of a file names: its own crate's, and those that the file
+    imports."""
     crate = path.split("/")[1]
     known = {name: (own, name) for own, name in all_types if own == crate}
     for own, names in re.findall(r"^use ([a-z]+_[a-z]+)::(?:\w+::)*\{?([\w, \n]+)", repo.read(path), re.M):
@@ -178,7 +179,7 @@ def types_named(path: str, text: str, all_types: Types) -> list[Place]:
 
 
 def declared(path: str, lines: Lines) -> Iterator[Place]:
-    """The types that a definition names, by the imports of its file."""
+    """Yields the types that a definition names, from the imports of its file."""
     words = set(re.findall(NAME, "\n".join(lines)))
     imported = re.findall(r"use Rattle\.([a-z]+_[a-z]+)\.specs\.declared\.([\w.]+)\.\{([^}]*)\}", repo.read(path))
     for crate, module, names in imported:
@@ -188,8 +189,8 @@ def declared(path: str, lines: Lines) -> Iterator[Place]:
 
 
 class Reached:
-    """What clauses and laws rest on: each definition by its place with its lines, and each type by its place with its
-    file and lines."""
+    """The definitions and types below clauses and laws: each definition by its place with its lines, and each type by
+    its place with its file and lines."""
 
     def __init__(self) -> None:
         files = repo.files("crates/*/specs/*.antt")
@@ -200,7 +201,7 @@ class Reached:
         self.used: dict[Place, tuple[str, Lines]] = {}
 
     def add(self, path: str, function: str, wanted: str | None = None, named: Iterable[str] = ()) -> None:
-        """Adds what a clause or a law rests on. A clause speaks of the types of its call too, which are named."""
+        """Adds what a clause or a law needs. A clause also needs the types of its call, which are given."""
         text = clause(path, function, wanted)
         left = [place for name, place in imports(path).items() if re.search(rf"\b{name}\b", text)]
         asked = [place for name in named for place in types_named(path, name, self.all_types)]
@@ -210,7 +211,7 @@ class Reached:
             asked += types_
 
     def of_type(self, place: Place) -> tuple[list[Place], list[Place]]:
-        """Adds a type. The definitions and the types that it names."""
+        """Adds a type, and returns the definitions and the types that it names."""
         if place in self.used or place not in self.all_types:
             return [], []
         path, own, model = self.all_types[place]
@@ -220,7 +221,7 @@ class Reached:
         return left, types_named(path, "\n".join(own), self.all_types)
 
     def of_definition(self, path: str, name: str) -> tuple[list[Place], list[Place]]:
-        """Adds a definition. The definitions and the types that it names."""
+        """Adds a definition, and returns the definitions and the types that it names."""
         if (path, name) in self.seen or name not in self.defined.get(path, {}):
             return [], []
         lines = self.seen[path, name] = self.defined[path][name]
@@ -229,12 +230,12 @@ class Reached:
         return left, list(declared(path, lines))
 
 
-# A file of definitions: its crate, its module, the names and the count of their lines.
+# A file of definitions: its crate, its module, their names and the count of their lines.
 File = tuple[str, str, list[str], int]
 
 
 def by_file(seen: Iterable[tuple[Place, Lines]]) -> Iterator[File]:
-    """The files in reading order."""
+    """Yields the files in reading order."""
     found: dict[str, list[tuple[str, int]]] = {}
     for (path, name), lines in seen:
         found.setdefault(path, []).append((name, len(lines)))
@@ -244,7 +245,7 @@ def by_file(seen: Iterable[tuple[Place, Lines]]) -> Iterator[File]:
 
 
 def file_rows(files: Iterable[File], what: str) -> Iterator[str]:
-    """Some files as rows of the table, a row a crate, and one for all of them."""
+    """Yields table rows for some files: a row for each crate, and one for all of them."""
     crates: dict[str, list[tuple[str, int]]] = {}
     for crate, module, _, count in files:
         crates.setdefault(crate, []).append((module, count))
@@ -255,7 +256,7 @@ def file_rows(files: Iterable[File], what: str) -> Iterator[str]:
 
 
 def type_rows(used: dict[Place, tuple[str, Lines]]) -> Iterator[str]:
-    """The types of the code as rows of the table, a row a crate, and one for all of them."""
+    """Yields table rows for the types of the code: a row for each crate, and one for all of them."""
     for crate in CRATES:
         own = sorted((name, len(lines)) for (of, name), (_, lines) in used.items() if of == crate)
         if own:
@@ -264,7 +265,7 @@ def type_rows(used: dict[Place, tuple[str, Lines]]) -> Iterator[str]:
 
 
 def show_each(files: Iterable[File], used: Iterable[tuple[Place, tuple[str, Lines]]]) -> None:
-    """With --list, each definition and type."""
+    """Prints each definition and type, if --list is given."""
     if "--list" in sys.argv[1:]:
         for crate, module, names, count in files:
             print(f"{crate} {module}, {count} lines: {', '.join(names)}")
@@ -273,7 +274,7 @@ def show_each(files: Iterable[File], used: Iterable[tuple[Place, tuple[str, Line
 
 
 def tables() -> str:
-    """The two tables: the files, and the types."""
+    """Returns the two tables: the files, and the types."""
     reached = Reached()
     reached.add(*CALL, TYPES)
     files = list(by_file(reached.seen.items()))

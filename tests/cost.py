@@ -1,10 +1,11 @@
-"""Tells what the gate costs, crate by crate: `python3 tests/cost.py` runs `rt ci`, and `python3 tests/cost.py --anew`
-what a machine pays that has kept nothing; names of crates may stand behind it. It prints what `rt ci` prints, then a
-table in processor minutes, and ends with the status of `rt ci`. On a machine with other work the figures are higher.
+"""Measures what the gate costs, crate by crate: `python3 tests/cost.py` runs `rt ci`, and `python3 tests/cost.py
+--anew` measures what a machine pays that has kept nothing. Names of crates may follow. It prints what `rt ci` prints,
+then a table in processor minutes, and exits with the status of `rt ci`. On a machine that does other work too the
+figures are higher.
 
-Twice a second it looks at the processes that `rt ci` has begun (Linux, /proc) and notes how long each has run on a
-processor. What a process used after the last look is missing in its crate's row; it is part of the line `rest`, which
-makes the sum exact."""
+Twice a second it looks at the processes that `rt ci` has started (Linux, /proc), and records how much processor time
+each has used. What a process uses after the last look is missing in its crate's row. It is part of the row `rest`,
+which makes the sum exact."""
 import os
 import re
 import resource
@@ -22,12 +23,12 @@ KINDS = ("proof", "second proof", "edits", "tests", "linking", "runs")
 PAUSE = 0.5
 TICKS = os.sysconf("SC_CLK_TCK")
 
-# The crate that a process works for, and what it does there.
+# The crate that a process works for, and the kind of work.
 Work = tuple[str, str]
 
 
 class Process(typing.NamedTuple):
-    """A process: its number, its start, its parent, its seconds on a processor, and its words."""
+    """A process: its number, its start time, its parent, its seconds of processor time, and its command line."""
 
     number: int
     start: str
@@ -37,7 +38,7 @@ class Process(typing.NamedTuple):
 
 
 def text_of(path: str) -> str:
-    """What a file of /proc holds, or nothing where the process has ended."""
+    """Returns the content of a file in /proc, or an empty string if the process has ended."""
     try:
         with open(path, "rb") as file:
             return file.read().decode(errors="replace")
@@ -46,7 +47,7 @@ def text_of(path: str) -> str:
 
 
 def link_of(path: str) -> str:
-    """Where a link of /proc leads, or nothing where the process has ended."""
+    """Returns where a link in /proc leads, or an empty string if the process has ended."""
     try:
         return os.readlink(path)
     except OSError:
@@ -54,7 +55,7 @@ def link_of(path: str) -> str:
 
 
 def processes() -> Iterator[Process]:
-    """Each process."""
+    """Yields each process."""
     for name in filter(str.isdigit, os.listdir("/proc")):
         text = text_of(f"/proc/{name}/stat")
         if text:
@@ -64,7 +65,7 @@ def processes() -> Iterator[Process]:
 
 
 def work_of(process: Process) -> Work | None:
-    """What a process does, or nothing where its words don't tell."""
+    """Returns what a process does, or `None` if its command line doesn't show it."""
     words = process.words
     program = os.path.basename(words[0]) if words else ""
     if program == "rattle" and "--crate-name" in words:
@@ -81,7 +82,8 @@ def work_of(process: Process) -> Work | None:
 
 
 def descendants(root: int) -> Iterator[tuple[Process, Work | None]]:
-    """The processes that descend from one, each with its work, or that of the nearest above it whose words tell."""
+    """Yields the descendants of a process, each with its work: that of its topmost ancestor with known work, or its
+    own."""
     children: dict[int, list[Process]] = defaultdict(list)
     for process in processes():
         children[process.parent].append(process)
@@ -94,7 +96,7 @@ def descendants(root: int) -> Iterator[tuple[Process, Work | None]]:
 
 
 def watch(root: int, is_over: Callable[[], bool]) -> dict[Work, float]:
-    """Seconds by work of what a process and those below it did, until it is over."""
+    """Returns the seconds of processor time by work of a process and its descendants, up to its end."""
     last: dict[tuple[int, str], float] = {}
     works: dict[tuple[int, str], Work] = {}
     while not is_over():
@@ -111,7 +113,7 @@ def watch(root: int, is_over: Callable[[], bool]) -> dict[Work, float]:
 
 
 def rows_of_costs(spent: dict[Work, float], whole: float) -> str:
-    """The rows of each crate, the dearest first, and the sum."""
+    """Returns the rows of the crates, the most expensive first, and the sum."""
     crates: dict[str, dict[str, float]] = defaultdict(dict)
     for (crate, kind), seconds in spent.items():
         crates[crate][kind] = seconds

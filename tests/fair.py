@@ -315,7 +315,7 @@ class TestFaults(checks.Checked):
             time.sleep(0.1)
         others.stop()
         rate = 2 * others.counts[0] / (time.monotonic() - began)
-        what = f"beside {rate:.0f} facts a second, {fine(answers)} of {len(answers)} requests in two pieces are answered"
+        what = f"beside {rate:.0f} facts a second {fine(answers)} of {len(answers)} requests in two pieces are answered"
         self.check(what, fine(answers) == len(answers), set(answers))
         self.check("it ends when its input does", server.end()[0] == 0)
 
@@ -359,7 +359,7 @@ class TestFaults(checks.Checked):
             server.ask(1, "GET", "/lra")
             slowest = max(slowest, time.monotonic() - asked)
             time.sleep(0.3)
-        what = f"beside {len(ones)} clients that send three bytes a second, a page takes at most {slowest * 1000:.0f} ms"
+        what = f"beside {len(ones)} clients that send 3 bytes a second, a page takes at most {slowest * 1000:.0f} ms"
         self.check(what, slowest < 0.5, slowest)
         self.check("those clients' connections are closed", comes_to(10, lambda: all(is_closed(one) for one in ones)))
         self.check("it ends when its input does", server.end()[0] == 0)

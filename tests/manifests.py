@@ -1,7 +1,7 @@
 #!/usr/bin/env python3
 """Compares deploy/kubernetes.yaml with Kubernetes' own models: /usr/bin/python3 tests/manifests.py. It needs Debian's
-python3-kubernetes. A line for each field that no model has, that is missing, or that is of another kind; the status is
-1 where there is one."""
+python3-kubernetes. It prints a line for each field that isn't in a model, that is missing, or that has the wrong type.
+Exits with 1 if there is one."""
 import os
 import re
 import sys
@@ -13,7 +13,7 @@ PLAIN = {"str": str, "int": int, "bool": bool}
 
 
 def misfits_of(models: typing.Any, kind: str, value: typing.Any, where: str) -> Iterator[str]:
-    """What of a value isn't as its model has it."""
+    """Yields where a value doesn't match its model."""
     many = re.fullmatch(r"(list|dict)[\[(](?:str, )?(.*)[\])]", kind)
     if many:
         items = value.items() if many[1] == "dict" else enumerate(value)
@@ -21,18 +21,18 @@ def misfits_of(models: typing.Any, kind: str, value: typing.Any, where: str) -> 
             yield from misfits_of(models, many[2], item, f"{where}.{key}")
     elif kind in PLAIN:
         if not isinstance(value, PLAIN[kind]):
-            yield f"{where} is {value!r}, and has to be of {kind}"
+            yield f"{where} is {value!r}, and has to be of type {kind}"
     elif kind != "object":
         yield from misfits_in(models, getattr(models, kind), value, where)
 
 
 def misfits_in(models: typing.Any, model: typing.Any, value: dict[str, typing.Any], where: str) -> Iterator[str]:
-    """What of an object's fields isn't as its model has it."""
+    """Yields where an object's fields don't match its model."""
     names = {written: name for name, written in model.attribute_map.items()}
-    yield from (f"{where}.{key} is in no model" for key in value.keys() - names.keys())
+    yield from (f"{where}.{key} isn't in the model" for key in value.keys() - names.keys())
     given = {names[key]: item for key, item in value.items() if key in names}
     try:
-        # It refuses what misses a field that has to be there.
+        # The model refuses an object that lacks a required field.
         model(**given)
     except ValueError as error:
         yield f"{where}: {error}"

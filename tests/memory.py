@@ -1,11 +1,11 @@
 #!/usr/bin/env python3
-"""Compares the lines that answer out of memory by hand with tests/memory.txt: python3 tests/memory.py. Standard library
-alone.
+"""Compares the lines that answer "out of memory" by hand with tests/memory.txt: python3 tests/memory.py. Uses only the
+standard library.
 
-No contract can say when memory is refused, so a body that answers so where there is memory is proved all the same. Each
-line that does is listed, with its function, and was looked at: the error that it passes on, or translates, came from a
-refused growth. Look at a new one before you list it: python3 tests/memory.py --write. The status is 1 where list and
-code differ."""
+No contract can say when memory is refused, so a body that gives this answer although there is memory is proved all the
+same. Each line that gives it is listed with its function, and somebody has checked that the error that it passes on or
+translates came from a refused allocation. Look at a new line before you list it: python3 tests/memory.py --write. Exits
+with 1 if list and code differ."""
 import os
 import re
 import sys
@@ -21,7 +21,7 @@ COMMENT = re.compile(r"^\s*//|^\s*ghost use|^\s*(requires|ensures)\b")
 
 
 def crates_with_code() -> Iterator[str]:
-    """The crates that have code besides tests."""
+    """Yields the crates that have code other than tests."""
     for folder in repo.files("crates/*/src"):
         root = f"{folder}/lib.rt"
         text = repo.read(root) if os.path.exists(f"{repo.TOP}/{root}") else ""
@@ -30,7 +30,7 @@ def crates_with_code() -> Iterator[str]:
 
 
 def answers() -> Iterator[str]:
-    """Each line that answers so: its file, its function and its text."""
+    """Yields each line that gives this answer: its file, its function and its text."""
     for path in [path for crate in crates_with_code() for path in repo.sources(crate)]:
         function = "-"
         for line in repo.read(path).splitlines():

@@ -1,11 +1,12 @@
 #!/bin/sh
 # Refuses each request for memory in turn: `tests/scarce.sh`, or `tests/scarce.sh NAME..` for some of the programs under
-# tests/scarce. It copies the repository to a folder of its own, adds the programs there, and tries each, with no proof. A program
-# makes each call twice, and looks whether each answers that memory is refused, and leaves its object as it was, or answers what
-# it answers with ample memory. `rt try` always refuses the 10,000th request: a program reads a number N from standard input, and
-# first makes so many requests that the Nth of its own is that one. So one build runs all. It prints how often which call was
-# refused. A program says from which N to which: at the first it is still at what it makes first, at the last nothing is refused.
-# With STEP=7 in the environment it tries each 7th N alone. The status is 1 where a call does otherwise.
+# tests/scarce. It copies the repository to a folder of its own, adds the programs there, and runs each without a proof.
+# A program makes each call twice, and checks that each call either answers "out of memory" and leaves its object as it
+# was, or answers as with ample memory. `rt try` always refuses the 10,000th request. So a program reads a number N from
+# standard input, and first makes so many requests that the Nth of its own is the 10,000th. In this way one build is
+# enough. It prints how often each call was refused. Each program states its range of N: at the first N it is still
+# setting up, and at the last nothing is refused. With STEP=7 in the environment it tries only each 7th N. Exits with 1
+# if a call does anything else.
 set -u
 top=$(cd "$(dirname "$0")/.." && pwd)
 copy=$(mktemp -d)
@@ -13,7 +14,7 @@ trap 'rm -rf "$copy"' EXIT
 cp -r "$top/crates" "$top/crates.txt" "$top/HANDLES" "$copy/"
 rm -rf "$copy"/crates/*/out
 
-# Adds a program as a crate, with the files of the sweeps that it names as modules.
+# Adds a program as a crate, with the shared files that it names as modules.
 add() {
   folder="$copy/crates/scarce_$1/src"
   mkdir -p "$folder"
@@ -24,7 +25,7 @@ add() {
   echo "scarce_$1: $(sed -n 's,^// Uses: ,,p' "$folder/main.rt") anyhow" >> "$copy/crates.txt"
 }
 
-# Tries a program with each of its requests refused, and prints what was found.
+# Runs a program with each of its requests refused, and prints the findings.
 sweep() {
   cases="$copy/cases_$1"
   mkdir -p "$cases"
@@ -32,7 +33,7 @@ sweep() {
   last=$(sed -n 's,^// Requests: [0-9]* to ,,p' "$copy/crates/scarce_$1/src/main.rt")
   for number in $(seq "$from" "${STEP:-1}" "$last") "$last"; do echo "$number" > "$cases/$(printf %04d "$number")"; done
   found="$copy/found_$1"
-  # One step of the interpreter: the compiled run alone answers.
+  # One step of the interpreter: only the compiled run counts.
   (cd "$copy/crates/scarce_$1" && rt try --steps 1 --fail-alloc 10000 --cases "$cases") > "$found" 2>&1
   status=$?
   first=ok

@@ -1,30 +1,32 @@
-"""Plays nodes in one thread, under a clock, a network, disks and participants that a seed decides.
+"""Simulates nodes in one thread, with a clock, a network, disks and participants whose behaviour a seed decides.
 
-`python3 tests/sim.py` has the proved program `lra_sim` play for about a minute, and looks whether the code has the text
-of each fault that is planted by hand. `python3 tests/sim.py SEED SEEDS EVENTS [NODES [TOLD]]` plays from a seed on so
-many, each with so many events; `--unproved` in front has `rt try` play the sources, far slower, under an address
-sanitizer. `--night [SEEDS EVENTS [FIRST]]` plays 5,000 seeds with 20,000 events, one a processor at a time, and tells
-how many steps that were. `--faults [NAME..]` has it find what tests/sim/faults plants in the code, one after another,
-each in a copy and unproved: files of the form of tests/wrong's, with a line 'crate: NAME' first.
+`python3 tests/sim.py` runs the proved program `lra_sim` for about a minute, and checks that the code has the text that
+each hand-made fault replaces. `python3 tests/sim.py SEED SEEDS EVENTS [NODES [TOLD]]` simulates this many seeds from a
+seed on, each with this many events; with `--unproved` in front `rt try` runs the sources instead, far slower, under an
+address sanitizer. `--night [SEEDS EVENTS [FIRST]]` simulates 5,000 seeds with 20,000 events, one seed on each processor
+at a time, and prints how many steps that were. `--faults [NAME..]` checks that the simulator finds the faults of
+tests/sim/faults. It plants them one after another, each in an unproved copy of the code. Their files have the form of
+those in tests/wrong, with a first line 'crate: NAME'.
 
-The program is crates/lra_sim, over sim_env, sim_runs and sim_node. The same seed gives the same play everywhere.
+The program is crates/lra_sim, over sim_env, sim_runs and sim_node. The same seed gives the same run everywhere.
 
-Played are one to eight nodes: of each its book over files in memory, of which a call fails, or all do, and what wasn't
-synced is lost or torn; the mailbox with turns, errands, deadlines and sweeps; calls of participants that answer, or
-don't, by the table of docs/HTTP.md; pulls by whole messages over a network that delays, cuts off, loses and parts;
-stops between any two calls of a disk, starts over the newest copy or an older one; clocks that step. What a thread of
-the server does is a step here. Lines that stand in the server once more: the heads of their files say which.
+It simulates one to eight nodes. Each has its book over files in memory: one call may fail, or all, and what wasn't
+synced is lost or torn. It has its agenda with the schedule, planned calls, deadlines and sweeps. Participants answer
+their calls, or don't, by the table of docs/HTTP.md. Pulls are complete messages over a network that delays, cuts off,
+loses and partitions. Nodes stop between any two calls of a disk, and start over the newest copy or an older one. Clocks
+jump. What a thread of the server does is one step here. Some lines repeat lines of the server: the heads of their files
+say which.
 
-After each step it is looked whether the node's pages and records say what the facts do that it has, reckoned from a
-plain list of all facts that were entered; whether statuses rise, and commands are answered so; whether who is due is
-who the facts say, and each call is on the newest list; whether what is purged showed the same for its time, and what
-failed in its tree too; whether nothing is entered before the others were heard; whether no number is given twice; and
-whether after each stop all is there that was answered. At last all is well for two minutes: then nothing that was
-decided is left to be done, and all nodes are alike. Beyond a copy that is older a node's facts may be lost that no
-other node has heard of; what it told and is still on its way then is lost too, and what another couldn't take, which a
-server keeps.
+After each step it checks these things. The node's pages and records say what its facts say, computed from a plain list
+of all facts that were applied. Statuses only rise, and commands are answered accordingly. The participants that are due
+are those that the facts say, and each call is on the newest list. A tree that is purged showed the same for its
+retention time, also if something in it failed. Nothing is applied before the other nodes have been heard from. No
+number is assigned twice. After each stop everything is there that was answered. At the end all is well for two minutes:
+then nothing that was decided is left to be done, and all nodes are alike. After a start over an older copy a node may
+lose facts that no other node has received. Facts that it sent and that are still on their way are lost then too, and
+also facts that another node couldn't apply, which a server keeps.
 
-It ends with 0 if nothing was found, or if each planted fault was. Standard library alone."""
+It exits with 0 if nothing was found, or if each planted fault was. Uses only the standard library."""
 import concurrent.futures
 import os
 import re
@@ -38,13 +40,13 @@ from tools import repo
 
 FAULTS = "tests/sim/faults"
 NAME = "lra_sim"
-# The first seed, how many seeds, and the events of each: for a minute, for a night, and to look for a fault.
+# The first seed, the number of seeds, and the events of each: for a minute, for a night, and to look for a fault.
 SHORT = ["1", "1000", "2000"]
 NIGHT = ["5000", "20000"]
 LONG = ["1", "100", "2000"]
-# How many nodes there are, seed by seed.
+# The number of nodes, seed by seed.
 NODES = [3, 2, 3, 1, 4, 2, 5, 8]
-# How long `rt try` may play, in seconds.
+# How many seconds `rt try` may run.
 SECONDS = 900
 
 # Files with their texts.
@@ -56,7 +58,7 @@ def names_of_faults() -> list[str]:
 
 
 def plant(folder: str, fault: str) -> Texts:
-    """The files that a fault changes in a folder, each with its text behind that."""
+    """Returns the files that a fault changes in a folder, each with its changed text."""
     made: Texts = {}
     crate = file = old = ""
     for line in repo.read(f"{FAULTS}/{fault}.edit").splitlines():
@@ -70,13 +72,14 @@ def plant(folder: str, fault: str) -> Texts:
         elif word == "new":
             whole = made.get(file) or repo.read(file)
             if whole.count(old) != 1:
-                raise SystemExit(f"{fault}: its text doesn't stand there once: {old}")
+                raise SystemExit(f"{fault}: its text isn't there exactly once: {old}")
             made[file] = whole.replace(old, text)
     return made
 
 
 def try_out(words: list[str], fault: str = "") -> tuple[int, str]:
-    """Plays with these words by `rt try`, over a fault if there is one. The status, and what was printed."""
+    """Simulates with these arguments by `rt try`, with a planted fault if one is given. Returns the exit status and the
+    output."""
     with tempfile.TemporaryDirectory(prefix="sim-") as folder:
         repo.copy_crates(folder)
         for file, text in plant(folder, fault).items() if fault else ():
@@ -88,7 +91,7 @@ def try_out(words: list[str], fault: str = "") -> tuple[int, str]:
 
 
 def play(words: list[str]) -> tuple[int, str]:
-    """Plays with these words by the proved program. The status, and what was printed."""
+    """Simulates with these arguments by the proved program. Returns the exit status and the output."""
     program = repo.program(NAME)
     if not os.path.exists(program):
         raise SystemExit(f"{program} isn't built: run rt ci {NAME}, or say --unproved")
@@ -98,13 +101,13 @@ def play(words: list[str]) -> tuple[int, str]:
 
 
 def steps_in(out: str) -> int:
-    """How many steps were played without a finding."""
+    """Returns how many steps were simulated without a finding."""
     return sum(int(steps) for steps in re.findall(r"^seed \d+, \d nodes: (\d+) steps", out, re.M))
 
 
 def spread(first: int, seeds: int, rest: list[str]) -> int:
-    """Plays each seed by a process of its own, one a processor at a time. It prints what is found, and how many steps
-    were played in which time. The status."""
+    """Simulates each seed in a process of its own, one on each processor at a time. Prints the findings, and how many
+    steps took how long. Returns the exit status."""
     began = time.monotonic()
     each = [[str(seed), "1", *rest, str(NODES[seed % len(NODES)])] for seed in range(first, first + seeds)]
     found, steps = 0, 0
@@ -114,12 +117,12 @@ def spread(first: int, seeds: int, rest: list[str]) -> int:
             if status:
                 found += 1
                 print(out, end="", flush=True)
-    print(f"{seeds} seeds, {steps:,} steps in {time.monotonic() - began:.0f} seconds: {found} found something")
+    print(f"{seeds} seeds, {steps:,} steps in {time.monotonic() - began:.0f} seconds: {found} with a finding")
     return 1 if found else 0
 
 
 def is_found(fault: str) -> bool:
-    """Whether a planted fault is found. It prints by which seed."""
+    """Whether a planted fault is found. Prints the seed that finds it."""
     status, out = try_out(LONG, fault)
     said = re.findall(r"^seed \d+, \d nodes, step .*$", out, re.M)
     is_well = status == 1 and len(said) == 1

@@ -1,8 +1,8 @@
 """Runs the tests that need no proof: `python3 tests/units.py`, or with names of folders under tests/units
-(tools/units.py). The repository's libraries are copied to a folder of their own with the test crates beside them, and
-`rt try --test` builds and runs each: over an address sanitizer, and stopping at an index out of bounds, an overflow or
-a failed unwrap. It proves nothing of the tests; the libraries that they call are those that `rt ci` proves. It ends
-with 0 if each test passed, and with 1 if one failed or was cut off, or if a crate has none. Standard library alone."""
+(tools/units.py). It copies the repository's libraries and the test crates to a folder of their own, and `rt try --test`
+builds and runs each crate with an address sanitizer; a test stops at an index out of bounds, an overflow or a failed
+unwrap. This proves nothing about the tests; `rt ci` proves the libraries that they call. Exits with 0 if each test
+passed, and with 1 if one failed or was cut off, or if a crate has none. Uses only the standard library."""
 import os
 import re
 import subprocess
@@ -14,24 +14,25 @@ from concurrent.futures import ThreadPoolExecutor
 sys.path.insert(0, os.path.dirname(os.path.dirname(os.path.abspath(__file__))))
 from tools import units
 
-# How long one test may run, in seconds: the build looks at each access, and takes some five times as long as the
+# How many seconds one test may run. The build checks each memory access, so it takes some five times as long as the
 # gate's.
 SECONDS = 900
-# How many steps the interpreter may take. The build that looks at each access is to judge alone, so it stops at once.
+# How many steps the interpreter may take. Only the build that checks each access counts, so the interpreter stops at
+# once.
 STEPS = 1
-# The status of rt where a test was cut off.
+# The exit status of rt if a test was cut off.
 CUT_OFF = 6
 
 
 class Outcome(typing.NamedTuple):
-    """How many of a crate's tests passed, and whether that was all of them."""
+    """How many of a crate's tests passed, and whether all did."""
 
     passed: int
     is_well: bool
 
 
 def run_tests(copy: str, name: str, count: int) -> Outcome:
-    """Runs the tests of a crate, and prints what came of them."""
+    """Runs the tests of a crate, and prints the result."""
     began = time.time()
     words = ["rt", "try", "--test", "--steps", str(STEPS), "--seconds", str(SECONDS)]
     ran = subprocess.run(words, cwd=f"{copy}/crates/{name}", stdin=subprocess.DEVNULL, stdout=subprocess.PIPE,

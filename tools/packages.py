@@ -123,9 +123,9 @@ def manual(name: str, release: Release) -> bytes:
 .ad l
 {usage}
 .SH DESCRIPTION
-The file /{DOCS}/docs/{page}.md has each word, and all that the program does.
-The status is 0 once standard input has ended, 1 if the program can't begin, for example because a port is in use, and 2
-if it doesn't take its words.
+The file /{DOCS}/docs/{page}.md describes each argument, and everything that the program does.
+The exit status is 0 once standard input has ended, 1 if the program can't start, for example because a port is in use,
+and 2 if its arguments are wrong.
 """.encode()
 
 
@@ -178,7 +178,7 @@ def changes(release: Release) -> bytes:
     return f"""\
 {NAME} ({release.version}) unstable; urgency=medium
 
-  * What is new stands in CHANGELOG.md beside this file.
+  * CHANGELOG.md beside this file lists what is new.
 
  -- {maintainer}  {date}
 """.encode()

@@ -1,7 +1,7 @@
-"""Made what stands beside it, by the program of 26 November 2026, whose journals were of version 1: `make.py PROGRAM
-FOLDER`. The journals of two nodes with LRAs of each kind, node-1.db and node-2.db, and in shown.json what the nodes
-showed of them at the end. tests/serve.py opens copies of them and compares. A program whose journals have another
-version can't make them again."""
+"""Made the files beside it, with the program of 26 November 2026, whose journals had version 1: `make.py PROGRAM
+FOLDER`. They are the journals of two nodes with LRAs of each kind, node-1.db and node-2.db, and shown.json, which has
+what the nodes showed of them at the end. tests/serve.py opens copies of them and compares. A program whose journals
+have another version can't make them again."""
 import contextlib
 import json
 import os
@@ -26,7 +26,7 @@ ANSWERS = {"/c1/complete": 202, "/d1/complete": 409, "/d2/complete": 200, "/e1/c
 
 
 class Maker:
-    """Makes LRAs at two nodes, and keeps their ids by what they are."""
+    """Makes LRAs at two nodes, and keeps their ids by their kinds."""
 
     def __init__(self, server: Server, part: Participant) -> None:
         self.server, self.url = server, part.url
@@ -41,8 +41,8 @@ class Maker:
         return self.server.join(node, lra, **links)[1]["member"]
 
     def make(self) -> None:
-        """LRAs of each kind."""
-        # With participants of each kind of links, one that left, and a nested LRA that was closed.
+        """Makes LRAs of each kind."""
+        # An LRA with participants with each kind of links, one that left, and a nested LRA that was closed.
         active = self.begin("active", limit=4_000_000_000_000)
         self.join(active, "a1")
         self.join(active, "a2", "complete", "status", "forget")
@@ -51,22 +51,22 @@ class Maker:
         nested = self.begin("nested", parent=active)
         self.join(nested, "a4")
         self.server.finish(1, nested)
-        # At once.
+        # An LRA that closes at once.
         closed = self.begin("closed")
         self.join(closed, "b1")
         self.server.finish(1, closed)
-        # One participant was busy, one is down.
+        # An LRA of which one participant is busy and one is down.
         closing = self.begin("closing")
         self.join(closing, "c1", "complete", "status")
         self.join(closing, "c2", "complete")
         self.server.finish(1, closing)
-        # With a participant that is still to be told to forget.
+        # An LRA with a participant that must still be called to forget.
         failed = self.begin("failed to close")
         self.join(failed, "d1", "complete", "forget")
         self.join(failed, "d2", "complete", "forget")
         self.server.finish(1, failed)
         self.make_cancelled()
-        # Node 2's own.
+        # An LRA of node 2.
         self.join(self.begin("of node 2", 2), "h1", "complete", node=2)
 
     def make_cancelled(self) -> None:
@@ -74,30 +74,30 @@ class Maker:
         self.join(cancelled, "e1")
         self.join(cancelled, "e2", "status")
         self.server.finish(1, cancelled, "cancel")
-        # The first to be compensated is down.
+        # An LRA whose first participant to compensate is down.
         cancelling = self.begin("cancelling")
         self.join(cancelling, "f1")
         self.join(cancelling, "f2", "complete")
         self.server.finish(1, cancelling, "cancel")
-        # Its participant was told to forget.
+        # An LRA whose participant was called to forget.
         lost = self.begin("failed to cancel")
         self.join(lost, "g1", "forget")
         self.server.finish(1, lost, "cancel")
 
     def members(self, node: int, lra: str) -> dict[int, str]:
-        """What a node shows of an LRA's participants."""
+        """Returns what a node shows of an LRA's participants."""
         answers = {member: self.server.ask(node, "GET", f"/lra/{lra}/member/{member}") for member in range(1, 5)}
         return {member: answer["status"] for member, (code, answer) in answers.items() if code == 200}
 
     def shown(self) -> list[Json]:
-        """What both nodes show, once that is what is wanted."""
+        """Returns what both nodes show, once that is as wanted."""
         for node in (1, 2):
             for name, lra in self.lras.items():
                 if self.server.comes_to(node, lra, WANTED[name], 20) is None:
                     raise SystemExit(f"node {node}, {name}: {self.server.status(node, lra)}")
         report = {"act": "complete", "outcome": "busy"}
         self.server.ask(2, "PUT", f"/lra/{self.lras['closing']}/member/2/report", report)
-        time.sleep(3)  # what was reported at node 2 comes to node 1
+        time.sleep(3)  # until the report at node 2 reaches node 1
         return [{"node": node, "what": name, "lra": lra, "status": self.server.status(node, lra),
                  "members": self.members(node, lra)} for node in (1, 2) for name, lra in self.lras.items()]
 
