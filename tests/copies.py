@@ -746,7 +746,7 @@ class TestCopies(checks.Checked):
         self.same("then commands are refused", (503, True), refuses(group, 1))
         self.same("it gives the reason", (503, {"ready": False, "cause": "copies"}), group.told(1, "/ready"))
         group.start(2)
-        self.check("they are accepted once the other node is back", comes_to(SLOW, lambda: begins(group, 1)))
+        self.check("commands are accepted once the other node is back", comes_to(SLOW, lambda: begins(group, 1)))
 
     def test_anew(self) -> None:
         """A member over an empty folder takes its facts back, and accepts commands only when it may."""

@@ -678,7 +678,7 @@ class TestGateway(checks.Checked):
                     time.sleep(0.1)
                 answer = answer_over(line, "PUT")
             self.same("a join in chunks", 200, answer.status)
-        self.same("they count as one join", 1, len(self.record(lra)["members"]))
+        self.same("joins in chunks count as one", 1, len(self.record(lra)["members"]))
         text = head_of("PUT", f"/lra-coordinator/{uid_of(lra)}/status", host)
         with client.connect() as line:
             for byte in text.replace(b"PUT", b"GET"):
@@ -698,7 +698,7 @@ class TestGateway(checks.Checked):
             answer = answer_over(line, "PUT")
         self.check(f"a client that waits for 100 Continue receives {interim}", interim in ("HTTP/1.1 100", "nothing"),
                    answer)
-        self.same("and it joins", 200, answer.status)
+        self.same("it joins", 200, answer.status)
         client.end(lra)
         self.same("both are called", (1, 1), (len(trip.of("complete")), len(other.of("complete"))))
 
@@ -738,7 +738,7 @@ class TestGateway(checks.Checked):
             self.check(f"beside {len(lines)} that are {what} a start takes {took:.2f} s", took < to_start, to_start)
             lra = self.joined(trip)
             took = seconds_of(client.end, lra)
-            self.check(f"and a close {took:.2f} s", took < to_close, to_close)
+            self.check(f"beside them a close takes {took:.2f} s", took < to_close, to_close)
             for line in lines:
                 line.close()
 
@@ -766,7 +766,7 @@ class TestGateway(checks.Checked):
             self.same(f"replayed with {text}", 403, asked_at(address, "PUT", target, text))
         for method in ("GET", "DELETE", "POST"):
             self.same(f"replayed by {method}", 403, asked_at(address, method, target, field))
-        self.same("nobody was called", [], trip.calls)
+        self.same("no participant was called", [], trip.calls)
         self.same("the link itself", 200, asked_at(address, "PUT", target, field))
         self.same("the link itself reaches the participant", 1, len(trip.of("compensate")))
         here = own_address()
@@ -1030,7 +1030,7 @@ class TestGateway(checks.Checked):
             self.same(f"{lra[-4:]}: a {word}", (200, status), self.ended(lra, word))
             calls = [call for call in trip.calls if call.lra == lra]
             self.same("its participant is called with its id", 1, len([call for call in calls if not call.is_end]))
-            self.check("and notified of its end",
+            self.check("its participant is notified of its end",
                        comes_to(SLOW, lambda lra=lra: [call for call in trip.ends() if call.lra == lra]))
         parent = second[2]
         child = client.start(parent)

@@ -307,11 +307,11 @@ class TestMembers(checks.Checked):
             self.check("it listens at the configured address",
                        comes_to(SLOW, lambda: is_open(third)) and not is_open(fourth))
             end_input(node)
-            self.check("and ends", node.wait(SLOW) == 0)
+            self.check("it ends when its input does", node.wait(SLOW) == 0)
         with self.node("1", self.folder, f"elsewhere:{fourth}"):
             self.check("by default it listens on the loopback interface", comes_to(SLOW, lambda: is_open(fourth)))
             listens = [address for address, _ in listening() if address.endswith(f":{fourth:04X}")]
-            self.check("and nowhere else", listens == [f"0100007F:{fourth:04X}"], listens)
+            self.check("it listens nowhere else", listens == [f"0100007F:{fourth:04X}"], listens)
 
     def test_version(self) -> None:
         """The program prints which build it is."""
@@ -373,7 +373,7 @@ class TestMembers(checks.Checked):
             told = group.ask(node, "PUT", f"/lra/{trip}/member/1/report", {"act": "compensate", "outcome": "done"})
             self.check(f"an outcome is reported at node {node}", told[0] == 204, told)
             took = group.all_come_to(trip, "Cancelled")
-            self.check(f"and all show it cancelled ({in_ms(took)})", took is not None, group.status(1, trip))
+            self.check(f"all show it cancelled ({in_ms(took)})", took is not None, group.status(1, trip))
         return trip
 
     def is_down(self, group: Group, known: Shown) -> None:
@@ -413,7 +413,7 @@ class TestMembers(checks.Checked):
         group.start(1, word="1-2")
         self.check("after a kill -9 both show the LRA", group.status(1, lra) == group.status(2, lra) == "Active")
         mine = group.begin(2)
-        self.check("and go on", group.all_come_to(mine, "Active") is not None)
+        self.check("both go on", group.all_come_to(mine, "Active") is not None)
         ended = group.end()
         self.check("both processes end", ended == [0, 0], ended)
 
@@ -428,7 +428,7 @@ class TestMembers(checks.Checked):
         shutil.copytree(f"{self.folder}/2", f"{self.folder}/copy")
         group.start(2)
         later = [group.begin(2) for _ in range(3)]
-        self.check("and what it begins after a restart",
+        self.check("all know what it begins after a restart",
                    all(group.all_come_to(lra, "Active") is not None for lra in later))
         known = {first, *later}
         for _ in range(5):
@@ -492,7 +492,7 @@ class TestMembers(checks.Checked):
             self.check(f"node {node} logs each of them, and nothing else",
                        is_told and sorted(group.lines(node)) == sorted(wanted), group.log(node))
         is_told = comes_to(30, lambda: group.lines(7) == [f"node 1: node 2 {misled}"])
-        self.check("and so does the node that is configured with two nodes", is_told, group.log(7))
+        self.check("so does the node that is configured with two nodes", is_told, group.log(7))
         self.check("nothing is taken from the strange ones",
                    [group.shown(node) for node in (1, 2)] == [dict.fromkeys(begun, "Active")] * 2, group.shown(1))
         self.check("the node that is configured with two nodes takes nothing", len(group.shown(7)) == 1, group.shown(7))

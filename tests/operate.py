@@ -272,7 +272,7 @@ class TestOperators(checks.Checked):
             wrong = metrics.problems(group.at(node, "/metrics").text)
             self.check(f"node {node}'s metrics are complete", not wrong, wrong)
         fields = group.at(1, "/metrics").fields
-        self.check("they have their content type", fields["Content-Type"] == "text/plain; version=0.0.4", fields)
+        self.check("metrics have their content type", fields["Content-Type"] == "text/plain; version=0.0.4", fields)
         lras = [group.begin(1) for _ in range(5)]
         group.ask(1, "GET", f"/lra/{UNKNOWN}")
         group.finish(1, lras[0])
