@@ -642,7 +642,7 @@ class TestCopies(checks.Checked):
         then = timed(lambda: group.begin(1))
         self.check(f"then no answer waits ({1000 * then:.0f} ms)", then < limit / 3, then)
         self.check("its metrics say so", group.samples(1)[SHORT] == 1)
-        warns = comes_to(5, lambda: "before 1 other node had what they show" in group.log(1))
+        warns = comes_to(5, lambda: "before 1 other node had stored what they show" in group.log(1))
         self.check("it logs a warning", warns, group.log(1))
         for number in (2, 3):
             group.processes[number].send_signal(signal.SIGCONT)

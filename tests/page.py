@@ -280,9 +280,9 @@ class TestBrowser(Opened):
         with self.opened(150) as (world, browser):
             lra = next(call for call in world.vain if call["kind"] == "after")["lra"]
             browser.get(f"toggle('{lra}', true)")
-            self.check("a listener that isn't notified has its button", browser.waits(button("It was told"), 5))
-            browser.get(f"{button('It was told')}.scrollIntoView()")
-            browser.click(button("It was told"))
+            self.check("a listener that isn't notified has its button", browser.waits(button("It was notified"), 5))
+            browser.get(f"{button('It was notified')}.scrollIntoView()")
+            browser.click(button("It was notified"))
             browser.click(YES)
             is_entered = browser.waits(f"{content_of('note')}.endsWith('/told')", 5)
             self.check("the report that it was notified is accepted", is_entered)
@@ -301,7 +301,7 @@ class TestBrowser(Opened):
         self.check("the page says why the node isn't ready", browser.waits(f"{trouble}.includes('journal')", 8))
         world.is_stopped = True
         is_told = browser.waits(f"{trouble}.includes('E19 Stopped')", 8)
-        is_told = is_told and browser.get(trouble).count("What stands here is of") == 1
+        is_told = is_told and browser.get(trouble).count("This page shows what it answered at") == 1
         self.check("the page says that what it shows is old", is_told and browser.get(SHOWN) == 150)
         world.is_stopped = False
         self.check("it goes on by itself", browser.waits(f"!{trouble}.includes('E19')", 15))
@@ -402,7 +402,7 @@ class TestShown(Opened):
         self.check("the message is red", color == "rgb(153, 27, 27)", color)
         self.check("the title has a sign", browser.get(title).startswith("! "), browser.get(title))
         world.pulled.update({2: 61, 3: 7300})
-        is_told = browser.waits(f"{away}.includes('for 1 min, nor node 3 for 2 h: calls for their')", 10)
+        is_told = browser.waits(f"{away}.includes('for 1 min, node 3 for 2 h: calls for their')", 10)
         self.check("two nodes are shown together", is_told, browser.get(away))
         world.pulled.update({2: 0, 3: 1})
         self.check("once they are heard from again the message goes", browser.waits(f"{away} === ''", 10))
@@ -437,7 +437,7 @@ class TestShown(Opened):
             self.check("the row of a failed LRA has the same edge as one with failing calls", seen == red, (seen, red))
             look = "getComputedStyle({}).backgroundColor"
             chips = [browser.get(look.format(among("chips", f"startsWith('{text}')")))
-                     for text in ("In vain", "FailedToClose", "FailedToCancel", "Closed")]
+                     for text in ("Calls fail", "FailedToClose", "FailedToCancel", "Closed")]
             self.check("its chip has the same colour", chips[0] == chips[1] == chips[2] != chips[3], chips)
             self.try_mild(browser, world, red)
 
@@ -449,7 +449,7 @@ class TestShown(Opened):
         world.vain.append(listener)
         self.check("a listener is shown in the row", browser.waits(f"{FIRST}.textContent.includes('news:80')", 8))
         text = browser.get(f"{FIRST}.querySelector('.what').innerText").split("\n")
-        is_below = first["link"].split("/")[2] in text[0] and text[2].startswith("Member 2 at news:8025, to be told")
+        is_below = first["link"].split("/")[2] in text[0] and text[2].startswith("Member 2 at news:8025, to be notified")
         self.check("it stands below the participant that hangs, although its calls have failed for longer", is_below,
                    text)
         ids = browser.get("[...rows].filter(row => row[1].key).map(row => row[0])")
