@@ -449,7 +449,8 @@ class TestShown(Opened):
         world.vain.append(listener)
         self.check("a listener is shown in the row", browser.waits(f"{FIRST}.textContent.includes('news:80')", 8))
         text = browser.get(f"{FIRST}.querySelector('.what').innerText").split("\n")
-        is_below = first["link"].split("/")[2] in text[0] and text[2].startswith("Member 2 at news:8025, to be notified")
+        listener = "Member 2 at news:8025, to be notified"
+        is_below = first["link"].split("/")[2] in text[0] and text[2].startswith(listener)
         self.check("it stands below the participant that hangs, although its calls have failed for longer", is_below,
                    text)
         ids = browser.get("[...rows].filter(row => row[1].key).map(row => row[0])")
