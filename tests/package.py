@@ -130,7 +130,13 @@ def older(package: str, folder: str) -> str:
     return made
 
 
+# How long each of these tests takes, and what it needs.
+LONG = "some minutes, as root, with Debian's network"
+
+
 class TestPackage(checks.Checked):
+    takes = LONG
+
     def install(self, debian: Debian, package: str) -> None:
         """Installs a package."""
         shutil.copyfile(package, debian.path("/root/package.deb"))
@@ -254,6 +260,8 @@ def said_words() -> Iterator[tuple[str, list[str]]]:
 
 
 class TestSystemd(checks.Checked):
+    takes = LONG
+
     def test_systemd(self) -> None:
         """The units work under a systemd that is booted in a container, with the rights that they give."""
         root, package = self.folder_in("root"), Given.package()
@@ -276,6 +284,8 @@ class TestSystemd(checks.Checked):
 
 
 class TestFiles(checks.Checked):
+    takes = LONG
+
     def setUp(self) -> None:
         super().setUp()
         self.tree = self.folder_in("tree")
@@ -371,6 +381,8 @@ class TestFiles(checks.Checked):
 class TestImage(checks.Checked):
     """The image of deploy/Containerfile, over a Debian that is made here, so that no registry is needed."""
 
+    takes = LONG
+
     def buildah(self, *words: str) -> str:
         """Runs buildah, which keeps everything in the test's folder, and returns what it prints."""
         where = ["--root", f"{self.folder}/kept", "--runroot", f"{self.folder}/run", "--storage-driver", "vfs"]
@@ -423,6 +435,8 @@ class TestImage(checks.Checked):
 
 class TestRelease(checks.Checked):
     """tools/release.py in a copy of this tree, over the programs of the package."""
+
+    takes = LONG
 
     def git(self, *words: str) -> None:
         who = ["-c", "user.name=tests", "-c", "user.email=tests@localhost", "-c", "commit.gpgsign=false"]
@@ -521,6 +535,8 @@ class TestRelease(checks.Checked):
 
 
 class TestTwice(checks.Checked):
+    takes = LONG
+
     def test_twice(self) -> None:
         """A second run, in another time zone and with another umask, gives the same bytes."""
         another = {**os.environ, "TZ": "Asia/Tokyo", "LC_ALL": "C", "TMPDIR": self.folder_in("room")}

@@ -46,6 +46,13 @@ def run_tests(copy: str, name: str, count: int) -> Outcome:
     return Outcome(passed, is_well)
 
 
+def test_crate(unit_crate: str) -> None:
+    """Runs the tests of one crate, for pytest."""
+    folder, counts = units.copied([unit_crate])
+    with folder as copy:
+        assert run_tests(copy, unit_crate, counts[unit_crate]).is_well
+
+
 def main() -> int:
     names = sys.argv[1:] or units.names()
     folder, counts = units.copied(names)

@@ -22,13 +22,15 @@ class Checked(unittest.TestCase):
     # The programs that must be built, and how long the whole test takes, if that is long.
     needs: tuple[type[Server] | type[Group] | type[Gateway], ...] = ()
     takes: str | None = None
+    # Whether tests that take long run too, though they weren't started by name.
+    is_long = False
 
     @classmethod
     def setUpClass(cls) -> None:
         for kind in cls.needs:
             if not os.access(kind.program, os.X_OK):
                 raise unittest.SkipTest(f"{kind.program} isn't there: ./coordinator builds it")
-        if cls.takes and not cls.is_told:
+        if cls.takes and not (cls.is_told or cls.is_long):
             raise unittest.SkipTest(f"it takes {cls.takes}: run it by itself")
 
     def setUp(self) -> None:
