@@ -41,7 +41,7 @@ def gone_link() -> str:
 
 def commands_of_page() -> list[tuple[str, Json]]:
     """Returns the commands at the operators' port that docs/OPERATING.md gives, each with the answer that it shows."""
-    chapter = repo.found(r"\n## The operator's port\n(.*?)\n## ", repo.read("docs/OPERATING.md"), re.S)[1]
+    chapter = repo.found(r"\n## The operators' port\n(.*?)\n## ", repo.read("docs/OPERATING.md"), re.S)[1]
     found = re.findall(r"^    (curl .*)\n(?:    # (\{.*\})$)?", chapter, re.M)
     return [(command, json.loads(shown.replace("[..]", "[]")) if shown else None) for command, shown in found]
 
