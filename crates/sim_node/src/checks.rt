@@ -220,7 +220,11 @@ impl<R: Runs> SimNode<R> {
             return Ok(());
         };
         if !self.known.model().may_be_purged(root) {
-            return Err(found(self.alloc, root, " is purged, but someone must still be notified")?);
+            return Err(found(
+                self.alloc,
+                root,
+                " is purged, but someone must still be notified",
+            )?);
         }
         match &self.life {
             Some(life) if asked.is_sweep => self.see_swept(root, life.began_at(), now),
