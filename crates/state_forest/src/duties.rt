@@ -35,7 +35,7 @@ pub struct Due {
 }
 
 /// The purposes of a call that don't depend on the saga: to complete, to forget, or to tell the
-/// participant that its LRA has ended. The `DutyKind` of `wire_callbacks` has the purposes of all
+/// participant that its LRA has ended. The `Purpose` of `wire_callbacks` has the purposes of all
 /// calls.
 #[derive(Clone, Copy)]
 enum DutyKind {
