@@ -21,7 +21,7 @@ use Rattle.sqlite.specs.Rows.{Task, Written, Puts, Clears, Updates, Upserts, Mee
 use Rattle.sqlite_schema.specs.declared.command.Conflict.TheVariants.{Abort}
 use Rattle.sqlite_schema.specs.declared.command.Upsert.{Upsert}
 use Rattle.sqlite.proofs.Callers.{one_step}
-use Rattle.state_journal.specs.Schema.{front_table, state_stamps, journal_schema}
+use Rattle.state_journal.specs.Schema.{front_table, lra_index, journal_schema}
 use Rattle.state_journal.specs.Tables.{front_row, IsFrontRow, IsFrontFormed, IsLraRow, IsFormed, SetsFront}
 use Rattle.state_journal.proofs.Texts.{program, front_update}
 use Rattle.state_journal.proofs.Members.{has_mapped, mapped_has, left_has, has_left_over, numbered_given}
@@ -69,12 +69,12 @@ module _ (db next : Trees) (origin : ℕ) (held purged : ℤ) (formed : IsFormed
   }
 
 -- a row has the origin of the new one
-conflict_is : (o : ℕ) (h p : ℤ) (origin : ℕ) (held purged : ℤ) → conflicts (Some (0 ∷ [])) (state_stamps ∷ []) front_table (front_row origin held purged) (front_row o h p)
+conflict_is : (o : ℕ) (h p : ℤ) (origin : ℕ) (held purged : ℤ) → conflicts (Some (0 ∷ [])) (lra_index ∷ []) front_table (front_row origin held purged) (front_row o h p)
     ≡ ((is_eq (value_cmp (Int (pos o)) (Int (pos origin))) && true) || false)
 unfolding first_key
 conflict_is o h p origin held purged = rw (equal_int (pos o) (pos origin)) refl
 
-conflict_at : (o : ℕ) (h p : ℤ) (origin : ℕ) (held purged : ℤ) → conflicts (Some (0 ∷ [])) (state_stamps ∷ []) front_table (front_row origin held purged) (front_row o h p) ≡ true → o ≡ origin
+conflict_at : (o : ℕ) (h p : ℤ) (origin : ℕ) (held purged : ℤ) → conflicts (Some (0 ∷ [])) (lra_index ∷ []) front_table (front_row origin held purged) (front_row o h p) ≡ true → o ≡ origin
 conflict_at o h p origin held purged is =
     elim (or_cases _ _ (sym (conflict_is o h p origin held purged) ∙ is)) [
       | inl both ↦ pos_same _ _ (tied_int _ _ (and_parts _ _ both).0)
@@ -166,7 +166,7 @@ module _ (limit : Option ℕ) (keys : Keys) (db : Trees) (origin : ℕ) (held pu
   new = front_row origin held purged
 
   -- no row has the origin, so the new one is inserted
-  inserted : ((r : Row) → Has (db 0) r → conflicts (Some (0 ∷ [])) (state_stamps ∷ []) front_table new r ≡ true → ⊥)
+  inserted : ((r : Row) → Has (db 0) r → conflicts (Some (0 ∷ [])) (lra_index ∷ []) front_table new r ≡ true → ⊥)
       → Puts task new db (Ok one) → SetsFront origin held purged db one.trees
   inserted none h =
       let put = went h in
@@ -188,11 +188,11 @@ module _ (limit : Option ℕ) (keys : Keys) (db : Trees) (origin : ℕ) (held pu
       (λ x there at. subst (λ l. Has l x) (sym is) (put_all_keeps (new ∷ []) (db 0) x fresh there)))
 
   -- the row that has the origin gets the new values
-  updated : (there old : Row) → Has (db 0) old → conflicts (Some (0 ∷ [])) (state_stamps ∷ []) front_table new old ≡ true → there ≡ rowid old ∷ []
+  updated : (there old : Row) → Has (db 0) old → conflicts (Some (0 ∷ [])) (lra_index ∷ []) front_table new old ≡ true → there ≡ rowid old ∷ []
       → Updates task (program front_update) (three origin held purged ++ rowid there ∷ shown front_table new) db (Ok one) → SetsFront origin held purged db one.trees
   updated there old has clash is h =
       let it = formed.front.each old has in
-      let key = conflict_at it.origin it.held it.purged origin held purged (subst (λ r. conflicts (Some (0 ∷ [])) (state_stamps ∷ []) front_table new r ≡ true) it.is clash) in
+      let key = conflict_at it.origin it.held it.purged origin held purged (subst (λ r. conflicts (Some (0 ∷ [])) (lra_index ∷ []) front_table new r ≡ true) it.is clash) in
       let old_is : old ≡ front_row origin it.held it.purged = it.is ∙ ap (λ o. front_row o it.held it.purged) key in
       let got = went (subst (λ v. Updates task (program front_update) (three origin held purged ++ v ∷ shown front_table new) db (Ok one)) (ap rowid is ∙ ap rowid old_is) h) in
       let wrote = went got.2 in
@@ -207,7 +207,7 @@ module _ (limit : Option ℕ) (keys : Keys) (db : Trees) (origin : ℕ) (held pu
   pub upserted : Upserts task Abort new db (clause ∷ []) (Ok one) → SetsFront origin held purged db one.trees
   upserted h = go h.0 h.1 h.2
     where
-      go : (found : List Row) → AreConflicts clause.target (state_stamps ∷ []) front_table (db 0) new found
+      go : (found : List Row) → AreConflicts clause.target (lra_index ∷ []) front_table (db 0) new found
           → Meets task (Upserts task Abort new db []) new db clause found (Ok one) → SetsFront origin held purged db one.trees
       go [] are met = inserted are.complete (cleared met.0 met.2)
       go (t ∷ more) are met = let r = are.sound t (inl refl) in updated t r.0 r.1 r.2 r.3 met

@@ -21,7 +21,7 @@ use Rattle.sqlite.specs.Rows.{Task, Written, Puts, Clears, Updates, Upserts, Mee
 use Rattle.sqlite_schema.specs.declared.command.Conflict.TheVariants.{Abort}
 use Rattle.sqlite_schema.specs.declared.command.Upsert.{Upsert}
 use Rattle.sqlite.proofs.Callers.{one_step}
-use Rattle.state_journal.specs.Schema.{lra_table, state_stamps, journal_schema}
+use Rattle.state_journal.specs.Schema.{lra_table, lra_index, journal_schema}
 use Rattle.state_journal.specs.Tables.{lra_row, IsLraRow, IsFrontFormed, IsFormed, IsKey, SetsLra}
 use Rattle.state_journal.proofs.Texts.{program, lra_update}
 use Rattle.state_journal.proofs.Members.{has_mapped, mapped_has, left_has, has_left_over, numbered_given}
@@ -66,19 +66,19 @@ module _ (db next : Trees) (home : ℕ) (num : ℤ) (body : List ℕ) (id : ℤ)
   }
 
 -- a row has the key of the new one
-conflict_is : (i id : ℤ) (h : ℕ) (n : ℤ) (home : ℕ) (num : ℤ) (b body : List ℕ) → conflicts (Some (1 ∷ 2 ∷ [])) (state_stamps ∷ []) lra_table (lra_row id home num body) (lra_row i h n b)
+conflict_is : (i id : ℤ) (h : ℕ) (n : ℤ) (home : ℕ) (num : ℤ) (b body : List ℕ) → conflicts (Some (1 ∷ 2 ∷ [])) (lra_index ∷ []) lra_table (lra_row id home num body) (lra_row i h n b)
     ≡ ((is_eq (value_cmp (Int (pos h)) (Int (pos home))) && (is_eq (value_cmp (Int n) (Int num)) && true)) || false)
 unfolding first_key
 conflict_is i id h n home num b body = rw (equal_int (pos h) (pos home), equal_int n num) refl
 
-conflict_at : (i id : ℤ) (h : ℕ) (n : ℤ) (home : ℕ) (num : ℤ) (b body : List ℕ) → conflicts (Some (1 ∷ 2 ∷ [])) (state_stamps ∷ []) lra_table (lra_row id home num body) (lra_row i h n b) ≡ true → IsKey home num h n
+conflict_at : (i id : ℤ) (h : ℕ) (n : ℤ) (home : ℕ) (num : ℤ) (b body : List ℕ) → conflicts (Some (1 ∷ 2 ∷ [])) (lra_index ∷ []) lra_table (lra_row id home num body) (lra_row i h n b) ≡ true → IsKey home num h n
 conflict_at i id h n home num b body is =
     elim (or_cases _ _ (sym (conflict_is i id h n home num b body) ∙ is)) [
       | inl both ↦ let parts = and_parts _ _ both in (pos_same _ _ (tied_int _ _ parts.0), tied_int _ _ (and_parts _ _ parts.1).0)
       | inr none ↦ absurd (true≢false (sym none))
     ]
 
-at_conflict : (i id : ℤ) (home : ℕ) (num : ℤ) (b body : List ℕ) → conflicts (Some (1 ∷ 2 ∷ [])) (state_stamps ∷ []) lra_table (lra_row id home num body) (lra_row i home num b) ≡ true
+at_conflict : (i id : ℤ) (home : ℕ) (num : ℤ) (b body : List ℕ) → conflicts (Some (1 ∷ 2 ∷ [])) (lra_index ∷ []) lra_table (lra_row id home num body) (lra_row i home num b) ≡ true
 at_conflict i id home num b body = conflict_is i id home num home num b body ∙ or_left _ _ (and_from _ _ (int_tied _ _ refl) (and_from _ _ (int_tied _ _ refl) refl))
 
 at_is : (home : ℕ) (num : ℤ) (x : Row) (it : IsLraRow x) → IsAt home num x → IsKey home num it.home it.num
@@ -170,7 +170,7 @@ module _ (limit : Option ℕ) (keys : Keys) (db : Trees) (home : ℕ) (num : ℤ
   task = record { limit = limit; keys = keys; schema = journal_schema; table = lra_table; params = three home num body }
 
   -- no row has the key, so the new one is inserted
-  inserted : (id : ℤ) → ((r : Row) → Has (db 1) r → conflicts (Some (1 ∷ 2 ∷ [])) (state_stamps ∷ []) lra_table (lra_row id home num body) r ≡ true → ⊥)
+  inserted : (id : ℤ) → ((r : Row) → Has (db 1) r → conflicts (Some (1 ∷ 2 ∷ [])) (lra_index ∷ []) lra_table (lra_row id home num body) r ≡ true → ⊥)
       → Puts task (lra_row id home num body) db (Ok one) → SetsLra home num (Some body) db one.trees
   inserted id none h =
       let new = lra_row id home num body in
@@ -186,7 +186,7 @@ module _ (limit : Option ℕ) (keys : Keys) (db : Trees) (home : ℕ) (num : ℤ
       let other : (x : Row) → Has (db 1) x → ¬ IsAt home num x = λ x there at.
       let it = formed.each x there in
       let key = at_is home num x it at in
-      none x there (subst (λ r. conflicts (Some (1 ∷ 2 ∷ [])) (state_stamps ∷ []) lra_table new r ≡ true) (ap (λ h. lra_row it.id h num it.body) (sym key.0) ∙ ap (λ n. lra_row it.id it.home n it.body) (sym key.1) ∙ sym it.is) (at_conflict it.id id home num it.body body)) in
+      none x there (subst (λ r. conflicts (Some (1 ∷ 2 ∷ [])) (lra_index ∷ []) lra_table new r ≡ true) (ap (λ h. lra_row it.id h num it.body) (sym key.0) ∙ ap (λ n. lra_row it.id it.home n it.body) (sym key.1) ∙ sym it.is) (at_conflict it.id id home num it.body body)) in
       subst (SetsLra home num (Some body) db) (sym trees) (replaced db put.0 home num body id formed (done.tables.0 (omega arith))
       (subst (λ l. Has l new) (sym is) (put_all_adds (new ∷ []) (db 1) new fresh (inl refl)))
       (λ x there. elim (put_all_has (new ∷ []) (db 1) x (subst (λ l. Has l x) is there)) [
@@ -197,11 +197,11 @@ module _ (limit : Option ℕ) (keys : Keys) (db : Trees) (home : ℕ) (num : ℤ
       (λ x there at. subst (λ l. Has l x) (sym is) (put_all_keeps (new ∷ []) (db 1) x fresh there)))
 
   -- the row that has the key gets the body
-  updated : (id : ℤ) (there old : Row) → Has (db 1) old → conflicts (Some (1 ∷ 2 ∷ [])) (state_stamps ∷ []) lra_table (lra_row id home num body) old ≡ true → there ≡ rowid old ∷ []
+  updated : (id : ℤ) (there old : Row) → Has (db 1) old → conflicts (Some (1 ∷ 2 ∷ [])) (lra_index ∷ []) lra_table (lra_row id home num body) old ≡ true → there ≡ rowid old ∷ []
       → Updates task (program lra_update) (three home num body ++ rowid there ∷ shown lra_table (lra_row id home num body)) db (Ok one) → SetsLra home num (Some body) db one.trees
   updated id there old has clash is h =
       let it = formed.each old has in
-      let key = conflict_at it.id id it.home it.num home num it.body body (subst (λ r. conflicts (Some (1 ∷ 2 ∷ [])) (state_stamps ∷ []) lra_table (lra_row id home num body) r ≡ true) it.is clash) in
+      let key = conflict_at it.id id it.home it.num home num it.body body (subst (λ r. conflicts (Some (1 ∷ 2 ∷ [])) (lra_index ∷ []) lra_table (lra_row id home num body) r ≡ true) it.is clash) in
       let old_is : old ≡ lra_row it.id home num it.body = it.is ∙ ap (λ h. lra_row it.id h it.num it.body) key.0 ∙ ap (λ n. lra_row it.id home n it.body) key.1 in
       let got = went (subst (λ v. Updates task (program lra_update) (three home num body ++ v ∷ shown lra_table (lra_row id home num body)) db (Ok one)) (ap rowid is ∙ ap rowid it.is) h) in
       let wrote = went got.2 in
@@ -216,7 +216,7 @@ module _ (limit : Option ℕ) (keys : Keys) (db : Trees) (home : ℕ) (num : ℤ
   pub upserted : (id : ℤ) → Upserts task Abort (lra_row id home num body) db (clause ∷ []) (Ok one) → SetsLra home num (Some body) db one.trees
   upserted id h = go h.0 h.1 h.2
     where
-      go : (found : List Row) → AreConflicts clause.target (state_stamps ∷ []) lra_table (db 1) (lra_row id home num body) found
+      go : (found : List Row) → AreConflicts clause.target (lra_index ∷ []) lra_table (db 1) (lra_row id home num body) found
           → Meets task (Upserts task Abort (lra_row id home num body) db []) (lra_row id home num body) db clause found (Ok one) → SetsLra home num (Some body) db one.trees
       go [] are met = inserted id are.complete (cleared id met.0 met.2)
       go (t ∷ more) are met = let r = are.sound t (inl refl) in updated id t r.0 r.1 r.2 r.3 met

@@ -56,11 +56,11 @@ lra_table = record {
 }
 
 -- the index that SQLite makes for the key of `lra`
-abbrev pub state_stamps : Index
-state_stamps = automatic lra_table 0 (1 ∷ 2 ∷ []) 2
+abbrev pub lra_index : Index
+lra_index = automatic lra_table 0 (1 ∷ 2 ∷ []) 2
 
 abbrev pub front_schema : Schema
 front_schema = record { tables = front_table ∷ []; indexes = []; views = [] }
 
 abbrev pub journal_schema : Schema
-journal_schema = record { tables = front_table ∷ lra_table ∷ []; indexes = state_stamps ∷ []; views = [] }
+journal_schema = record { tables = front_table ∷ lra_table ∷ []; indexes = lra_index ∷ []; views = [] }
