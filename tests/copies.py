@@ -790,7 +790,7 @@ class TestCopies(checks.Checked):
             def is_seen() -> bool:
                 begins(group, 1)
                 begins(second, 1)
-                return any("two processes may have its number" in one.log(1) for one in (group, second))
+                return any("two processes may run as this node" in one.log(1) for one in (group, second))
 
             self.check("one of them logs that another process assigns its numbers", comes_to(SLOW, is_seen),
                        (group.log(1), second.log(1)))
