@@ -53,10 +53,6 @@ neither : (a b : Bool) → (a || b) ≡ false → a ≡ false
 neither true b h = absurd cc
 neither false b h = refl
 
-no_both : (a : Bool) → a ≡ true → a ≡ false → ⊥
-no_both true t f = cc
-no_both false t f = cc
-
 -- the earlier of two moments is at most each
 first_if : (one other : Duration) (is_less : Bool) → nat_lt (as_nanos other) (as_nanos one) ≡ is_less
     → (as_nanos (if is_less then other else one) ≤ as_nanos one) × (as_nanos (if is_less then other else one) ≤ as_nanos other)

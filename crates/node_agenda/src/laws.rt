@@ -1,4 +1,5 @@
-// Laws of the definitions: each function does nothing, and its contract is the law.
+// Laws of the agenda: turns of tasks, starts, purges, and callbacks that are put off. Each function
+// does nothing, and its contract is the law.
 ghost use Rattle.std.specs.Prelude.{◌≡◌, ◌⊎◌, ◌<◌, ◌≤◌, [], ℕ, Bool, List, None, Option, Some, false, length, true};
 ghost use Rattle.std.specs.Duration.{as_nanos};
 ghost use Rattle.std.specs.declared.time.Duration.{Duration as TheDuration};

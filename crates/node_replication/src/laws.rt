@@ -1,6 +1,7 @@
-// Laws of the definitions: each function does nothing, and its contract is the law. The laws over
-// steps, or over pulls, speak of everything that may happen to a node since its start, with the
-// last event first in a list. The others speak of one step, from any state.
+// Laws of replication: whose answers wait for copies, and when another node is asked. Each function
+// does nothing, and its contract is the law. The laws over steps, or over pulls, speak of everything
+// that may happen to a node since its start, with the last event first in a list. The others speak
+// of one step, from any state.
 ghost use Rattle.std.specs.Prelude.{◌≡◌, ◌≢◌, ◌⊎◌, ◌<◌, ◌≤◌, ◌+◌, ◌++◌, ◌∷◌, [], ℕ, All, Bool, IfSome, List, None, Option, Some, false, length, replicate, true};
 ghost use Rattle.std.specs.Duration.{as_nanos};
 ghost use Rattle.std.specs.declared.time.Duration.{Duration as TheDuration};

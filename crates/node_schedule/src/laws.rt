@@ -1,4 +1,5 @@
-// Laws of the definitions: each function does nothing, and its contract is the law.
+// Laws of the schedule of callbacks: who is called next, and how long a host waits for its turn. Each
+// function does nothing, and its contract is the law.
 ghost use Rattle.std.specs.Prelude.{[], ◌≡◌, ◌+◌, ◌*◌, ◌<◌, ◌≤◌, Bool, List, None, Option, Some, ℕ, false, filter, length, map, max, nat_lt, true};
 ghost use Rattle.std.specs.List.{All};
 ghost use Rattle.state_facts.specs.declared.fact.Fact.{Fact};

@@ -1,4 +1,4 @@
-// A law of workers: the function does nothing, and its contract is the law.
+// A law of whom a request is for: the function does nothing, and its contract is the law.
 ghost use Rattle.std.specs.Prelude.{◌≡◌, ◌||◌, ◌==◌, ℕ, Bool, List, None, Option, IfSome, IsTrue, codes, is_some, not, true};
 ghost use Rattle.state_ids.specs.Ids.{IsNodeNumber};
 ghost use Rattle.wire_http.specs.declared.message.Request.{Request as TheRequest};

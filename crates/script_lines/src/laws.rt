@@ -1,4 +1,5 @@
-// Laws about the definitions: each function does nothing, and its contract is the law.
+// Laws of scripts: how lines and scripts are read, and that a script is one run of the world. Each
+// function does nothing, and its contract is the law.
 ghost use Rattle.std.specs.Prelude.{◌≡◌, ◌≤◌, ◌∷◌, ℕ, List, IfSome};
 ghost use Rattle.state_ids.specs.declared.TheConstants.{MAX_NODES};
 ghost use Rattle.wire_http.specs.Streams.{Calls, GivenBytes, TakenBytes, TakesPart};

@@ -1,5 +1,5 @@
-// Laws of the definitions, for every list of facts. Each function does nothing, and its contract is
-// the law.
+// Laws of facts, for every list of them: of chains of parents, cancels, outcomes and statuses. Each
+// function does nothing, and its contract is the law.
 ghost use Rattle.std.specs.Prelude.{◌≡◌, ◌++◌, ◌∷◌, [], ℕ, List, Some, true};
 ghost use Rattle.std.specs.List.{AllByRecursion};
 ghost use Rattle.std.specs.Option.{option_map_or};

@@ -29,13 +29,6 @@ seat_behind ((r ∷ rs) ∷ ps) zero last less some none = seat_first ps none
 seat_behind ([] ∷ ps) (suc k) last less some none = absurd (some (none_on ps k [] (omega (arith, less)) last))
 seat_behind ((r ∷ rs) ∷ ps) (suc k) last less some none = seat_behind ps k last (omega (arith, less)) some none
 
--- if the page at k is empty and no records follow, none stand from k on
-pub none_behind : (ps : List (List Record)) (k : ℕ) → get_or ps k [] ≡ [] → records_in (drop (suc k) ps) ≡ [] → records_in (drop k ps) ≡ []
-none_behind [] zero empty none = refl
-none_behind [] (suc k) empty none = refl
-none_behind (p ∷ ps) zero empty none = ap (λ xs. xs ++ records_in ps) empty ∙ none
-none_behind (p ∷ ps) (suc k) empty none = none_behind ps k empty none
-
 -- if there is no such page, the next one is added
 pub seat_added : (ps : List (List Record)) (at : ℕ) → IsLastSeat at ps → length ps ≤ at → IsLastSeat at (ps ++ [] ∷ [])
 seat_added [] zero seat beyond = (omega arith, refl)

@@ -1,4 +1,5 @@
-// Laws of the definitions. Each function does nothing, and its contract is the law.
+// Laws of records: a set of facts has one list of records, and one list of what is due. Each function
+// does nothing, and its contract is the law.
 ghost use Rattle.std.specs.Prelude.{◌≡◌, ℕ, List, Bool, true, false};
 ghost use Rattle.state_ids.specs.Ids.{Id};
 ghost use Rattle.state_facts.specs.declared.fact.Fact.{Fact};

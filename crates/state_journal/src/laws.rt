@@ -1,4 +1,5 @@
-//! Laws of the definitions.
+//! Laws of the journal: which rows stand for a view. Each function does nothing, and its contract is
+//! the law.
 ghost use Rattle.std.specs.Prelude.{◌≡◌, ◌≤◌, ℕ, List, length};
 ghost use Rattle.sqlite.specs.Order.{Row};
 ghost use Rattle.sqlite.specs.Tree.{Trees};

@@ -1,4 +1,5 @@
-// Laws of the definitions. Each function does nothing, and its contract is the law.
+// Laws of indexes: what is known has exactly one. Each function does nothing, and its contract is the
+// law.
 ghost use Rattle.std.specs.Prelude.{◌≡◌, ℕ, List, Option};
 ghost use Rattle.state_ids.specs.Ids.{Id};
 ghost use Rattle.state_stamps.specs.declared.stamp_entry.StampEntry.{StampEntry};

@@ -1,4 +1,5 @@
-// Laws that follow from the definitions alone.
+// Laws of the HTTP interface: what an answer says, and what it says of a body that is wrong. Each
+// function does nothing, and its contract is the law.
 ghost use Rattle.std.specs.Prelude.{◌≡◌, ◌<◌, ◌≤◌, ◌^◌, ◌||◌, ℕ, List, None, Some, is_err, is_some, length, true};
 ghost use Rattle.std.specs.List.{list_all};
 ghost use Rattle.serde_json.specs.Data.{Data};

@@ -1,4 +1,5 @@
-// Laws of the definitions: each function does nothing, and its contract is the law.
+// Laws of callbacks: which are due, and what their answers mean. Each function does nothing, and its
+// contract is the law.
 ghost use Rattle.std.specs.Prelude.{◌≡◌, ◌⊎◌, ◌<◌, ◌≤◌, ◌++◌, ℕ, List, IfSome, Some, length};
 ghost use Rattle.state_ids.specs.declared.outcome.Act.{Act as TheAct};
 ghost use Rattle.state_facts.specs.declared.fact.Fact.{Fact};

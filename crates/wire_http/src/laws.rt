@@ -1,4 +1,5 @@
-// Laws that follow from the definitions alone.
+// Laws of HTTP messages: which are whole, how one is taken off a stream, and which fault it has. Each
+// function does nothing, and its contract is the law.
 ghost use Rattle.std.specs.Prelude.{◌≡◌, ◌<◌, ◌⊎◌, ◌++◌, [], ◌∷◌, ℕ, List, length, map, IfSome, Some};
 ghost use Rattle.httparse.specs.Grammar.{RequestHead, ResponseHead, status_code};
 ghost use Rattle.httparse.specs.Spans.{name_and_value};
