@@ -2,6 +2,7 @@ mod Cases
 mod Copied
 mod Counting
 mod Lists
+mod Reaching
 mod Rushing
 mod Stored
 mod Telling

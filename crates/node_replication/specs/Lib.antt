@@ -1,3 +1,4 @@
+pub mod Followers
 pub mod Moments
 pub mod Outlooks
 pub mod Paces

@@ -3,6 +3,7 @@
 #![tactic(auto)]
 
 mod acknowledgements;
+mod followers_state;
 pub mod laws;
 mod mark;
 mod moment;
@@ -13,6 +14,7 @@ mod replication;
 mod standing;
 mod waiters;
 
+pub use followers_state::{FollowersState, Released};
 pub use mark::MAX_MARKS;
 pub use outlook::Outlook;
 pub use pacing::Pacing;

@@ -5,12 +5,12 @@ ghost use Rattle.state_ids.specs.declared.TheConstants.{MAX_NODES};
 use crate::build::Build;
 use crate::counts::Counts;
 use crate::desk_watch::DeskWatch;
-use crate::followers::{Followers, Released, Wants};
+use crate::followers::{Followers, Wants};
 use crate::mailbox::Mailbox;
 use crate::news::News;
 use crate::tally::Tally;
 use node_agenda::{Keep, Sweeping};
-use node_replication::PullDecision;
+use node_replication::{PullDecision, Released};
 use node_sockets::{AcceptQueue, Signal, Site, Sockets, StopReason, now};
 use state_ids::{Front, LAST_NUMBER, MAX_NODES, NodeId};
 use std::alloc::Global;
@@ -420,11 +420,8 @@ impl Node {
     /// back first.
     pub fn hear_copies<R: Wait + Clock>(&self, rt: &R, other: NodeId, front: &Front) {
         let known = self.mailbox.front(rt);
-        let (theirs, ours) = (front.count(self.me), known.count(self.me));
-        if theirs >= LAST_NUMBER || (theirs > ours && self.mailbox.is_behind(rt)) {
-            return;
-        }
-        let covered = self.followers.hear(rt, other, front, &known);
+        let is_behind = self.mailbox.is_behind(rt);
+        let covered = self.followers.hear(rt, other, front, &known, is_behind);
         if !self.followers.wants().any() {
             return;
         }
@@ -458,30 +455,25 @@ impl Node {
         }
     }
 
-    /// Hands a list of duties to the caller threads, once other nodes have what was seen.
+    /// Hands a list of duties to the caller threads, once other nodes have what was seen. If the list
+    /// waits, the other nodes must ask for that (`pass_on`).
     pub fn put_duties<R: Wait + Clock>(&self, rt: &R, duties: Duties) {
-        let ticket = self.target(rt);
-        if ticket == 0 {
-            self.mailbox.put_duties(rt, duties);
-        } else {
-            self.followers.hold_calls(rt, duties, ticket);
+        match self.followers.keep_list(rt, duties) {
+            Some(duties) => self.mailbox.put_duties(rt, duties),
+            None => self.has_news.store(true, Ordering::SeqCst),
         }
     }
 
     /// Hands over the duties that have waited for that.
     pub fn put_held<R: Wait + Clock>(&self, rt: &R) {
-        if !self.followers.wants().any() {
-            return;
-        }
-        let Some(released) = self.followers.take_calls(rt) else {
+        let Some(released) = self.followers.take_list(rt) else {
             return;
         };
-        let Released { duties, asks_again } = released;
-        let is_lost = duties.is_none();
-        if let Some(duties) = duties {
+        let Released { list, asks_again } = released;
+        if let Some(duties) = list {
             self.mailbox.put_duties(rt, duties);
         }
-        if asks_again || is_lost {
+        if asks_again {
             self.mailbox.stir(rt, false);
         }
     }
