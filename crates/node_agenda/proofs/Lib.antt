@@ -1,3 +1,5 @@
+mod Circle
+mod FirstDue
 mod Firsts
 mod Keeping
 mod Listed

@@ -1,80 +1,186 @@
 -- A node that is answered lacks none of its own facts that it sent here.
-use Rattle.std.proofs.Common.{◌≡◌, ◌≢◌, ◌⊎◌, ◌≤◌, ◌<◌, ◌-◌, ◌+◌, ◌&&◌, ◌==◌, ℕ, Bool, true, false, List, arith, if◌then◌else◌, inl, inr, length, refl, sym}
-use Rattle.std.specs.Prelude.{max, min, nat_le, nat_lt, slice_set}
-use Rattle.std.proofs.lemmas.Bool.{cases_eq}
+use Rattle.std.proofs.Common.{◌≡◌, ◌≢◌, ◌⊎◌, ◌≤◌, ◌<◌, ◌-◌, ◌&&◌, ◌==◌, ◌∙◌, ℕ, Bool, true, false, List, Option, None, Some, ap, arith, if◌then◌else◌, inl, inr, length, refl, subst, sym}
+use Rattle.std.specs.Prelude.{max, nat_le, nat_lt, slice_set}
+use Rattle.std.specs.declared.time.Duration.{Duration}
+use Rattle.std.proofs.lemmas.Bool.{cases_eq, eqb-true, leb-true, ltb-false, ltb-true}
 use Rattle.std.proofs.lemmas.Bool.Decides.{nat_tests}
 use Rattle.std.proofs.lemmas.List.{get_or-set_other, get_or-set_same}
 use Rattle.state_ids.specs.Fronts.{count}
-use Rattle.node_agenda.specs.Mail.{is_counted_by, is_owed, left_of, set_if, settled, told_by_it}
-use Rattle.node_agenda.specs.declared.known_fronts.KnownFronts.{KnownFronts}
+use Rattle.node_inbox.specs.Tellings.{Told}
+use Rattle.node_agenda.specs.Backlogs.{HasPlaces, IsKept, IsTaken, after_end, after_put, after_return, has_as_many, has_more, is_owed, most_of, own_in, own_of, own_taken, settled, waiting_of, waiting_with}
+use Rattle.node_agenda.specs.declared.backlog.Backlog.{Backlog}
+use Rattle.node_agenda.specs.declared.backlog.Taking.{Taking}
 
--- a test of both that fails
-one_is : (asks told known : ℕ) → (nat_lt asks told && nat_lt known told) ≡ false → (told ≤ asks) ⊎ (told ≤ known)
-one_is asks told known e = grind (arith, nat_tests)
+-- what is owed still is if the node counts no less
+more_is_owed : (asks most more front : ℕ) → most ≤ more → (nat_lt asks most && nat_lt front most) ≡ true → (nat_lt asks more && nat_lt front more) ≡ true
+more_is_owed asks most more front up e = grind (arith, nat_tests)
 
--- a test of both that still holds once more was sent
-both_are : (asks told more known : ℕ) → told ≤ more → (nat_lt asks told && nat_lt known told) ≡ true → (nat_lt asks more && nat_lt known more) ≡ true
-both_are asks told more known up e = grind (arith, nat_tests)
+owed_by : (from : ℕ) (asks front : List ℕ) (old new : Backlog) → most_of from old ≤ most_of from new → is_owed from asks front old ≡ true → is_owed from asks front new ≡ true
+owed_by from asks front old new up e = more_is_owed (count asks from) (most_of from old) (most_of from new) (count front from) up e
 
-in_range : (other a b : ℕ) → 1 ≤ other → (nat_le other a && nat_le other b) ≡ true → other - 1 < a
-in_range other a b some e = grind (arith, nat_tests)
+one_is : (asks most front : ℕ) → (nat_lt asks most && nat_lt front most) ≡ false → (most ≤ asks) ⊎ (most ≤ front)
+one_is asks most front e = grind (arith, nat_tests)
 
--- what the node sent is untaken
-is_set : (from value : ℕ) (counts : List ℕ) (size : ℕ) (fits : Bool) → 1 ≤ from → fits ≡ true → (nat_le from (length counts) && nat_le from size) ≡ true
-    → count (set_if fits from value counts) from ≡ value
-is_set from value counts size true some e there = get_or-set_same counts (from - 1) value 0 (in_range from (length counts) size some there)
-is_set from value counts size false some e there = absurd cc
+-- what waits after something else was put at a node's place
+here : (node : ℕ) (waiting : Option Told) (b : Backlog) → HasPlaces b → 1 ≤ node → node ≤ 8 → waiting_of node (waiting_with node waiting b) ≡ waiting
+here node waiting b places some one = get_or-set_same b.waiting (node - 1) waiting None (omega (arith, places, some, one))
 
--- what was untaken still is, unless it is set lower
-still : (from other value : ℕ) (counts : List ℕ) (size : ℕ) (fits : Bool) → 1 ≤ from → 1 ≤ other → (nat_le other (length counts) && nat_le other size) ≡ fits
-    → (from ≡ other → count counts from ≤ value) → count counts from ≤ count (set_if fits other value counts) from
-still from other value counts size false some more e up = omega arith
-still from other value counts size true some more e up = settle (cases_eq from other)
+elsewhere : (node other : ℕ) (waiting : Option Told) (b : Backlog) → 1 ≤ node → 1 ≤ other → node ≢ other → waiting_of node (waiting_with other waiting b) ≡ waiting_of node b
+elsewhere node other waiting b some more apart =
+    get_or-set_other b.waiting (other - 1) (node - 1) waiting None (λ e. apart (omega (arith, e, some, more)))
+
+-- what waits counts no less after a telling came
+put_if : (from : ℕ) (told : Told) (b : Backlog) (more : Bool) → HasPlaces b → 1 ≤ from → 1 ≤ told.from → told.from ≤ 8 → has_more (waiting_of told.from b) told ≡ more
+    → own_in (waiting_of from b) ≤ own_in (waiting_of from (if more then b else waiting_with told.from (Some told) b))
+put_if from told b true places some least one e = omega arith
+put_if from told b false places some least one e = elim (cases_eq from told.from) [
+  | inl is ↦
+      let now = here told.from (Some told) b places least one in
+      let less = ltb-false (own_of told) (own_in (waiting_of told.from b)) e in
+      subst (λ (n : ℕ). own_in (waiting_of n b) ≤ own_in (waiting_of n (waiting_with told.from (Some told) b))) (sym is)
+      (subst (λ (w : Option Told). own_in (waiting_of told.from b) ≤ own_in w) (sym now) less)
+  | inr apart ↦ subst (λ (w : Option Told). own_in (waiting_of from b) ≤ own_in w) (sym (elsewhere from told.from (Some told) b some least apart)) (omega arith)
+]
+
+taking_put : (told : Told) (b : Backlog) (more : Bool) → (if more then b else waiting_with told.from (Some told) b).taking ≡ b.taking
+taking_put told b true = refl
+taking_put told b false = refl
+
+most_up : (from : ℕ) (old new : Backlog) → own_in (waiting_of from old) ≤ own_in (waiting_of from new) → own_taken from old.taking ≡ own_taken from new.taking → most_of from old ≤ most_of from new
+most_up from old new up same = omega (arith, up, same)
+
+pub put : (told : Told) (from : ℕ) (asks front : List ℕ) (b : Backlog) → HasPlaces b → 1 ≤ from → 1 ≤ told.from → told.from ≤ 8
+    → is_owed from asks front b ≡ true → is_owed from asks front (after_put told b) ≡ true
+put told from asks front b places some least one e =
+    owed_by from asks front b (after_put told b)
+    (most_up from b (after_put told b) (put_if from told b (has_more (waiting_of told.from b) told) places some least one refl)
+    (ap (own_taken from) (sym (taking_put told b (has_more (waiting_of told.from b) told))))) e
+
+-- what came lies there, or more
+came_if : (told : Told) (b : Backlog) (more : Bool) → HasPlaces b → 1 ≤ told.from → told.from ≤ 8 → has_more (waiting_of told.from b) told ≡ more
+    → own_of told ≤ own_in (waiting_of told.from (if more then b else waiting_with told.from (Some told) b))
+came_if told b true places least one e = let more = ltb-true (own_of told) (own_in (waiting_of told.from b)) e in omega (arith, more)
+came_if told b false places least one e = subst (λ (w : Option Told). own_of told ≤ own_in w) (sym (here told.from (Some told) b places least one)) (omega arith)
+
+pub answered : (told : Told) (asks front : List ℕ) (b : Backlog) → HasPlaces b → 1 ≤ told.from → told.from ≤ 8
+    → is_owed told.from asks front (after_put told b) ≡ false → (own_of told ≤ count asks told.from) ⊎ (own_of told ≤ count front told.from)
+answered told asks front b places least one e =
+    let there = came_if told b (has_more (waiting_of told.from b) told) places least one refl in
+    elim (one_is (count asks told.from) (most_of told.from (after_put told b)) (count front told.from) e) [
+      | inl asked ↦ inl (omega (arith, there, asked))
+      | inr stored ↦ inr (omega (arith, there, stored))
+    ]
+
+-- a telling is taken out, and is being taken
+own_same : (from node own : ℕ) → from ≡ node → own_taken from (Some (record { from = node; own = own })) ≡ own
+own_same from node own e = grind (arith, nat_tests, e)
+
+own_none : (from node own : ℕ) → from ≢ node → own_taken from (Some (record { from = node; own = own })) ≡ 0
+own_none from node own e = grind (arith, nat_tests, e)
+
+pub taken : (now : Duration) (from : ℕ) (asks front : List ℕ) (old new : Backlog) (told : Told) → HasPlaces old → 1 ≤ from → IsTaken now old new told
+    → is_owed from asks front old ≡ true → is_owed from asks front new ≡ true
+taken now from asks front old new told places some t e = owed_by from asks front old new up e
   where
-    settle : (from ≡ other) ⊎ (from ≢ other) → count counts from ≤ count (slice_set counts (other - 1) value) from
-    settle (inl is) =
-        let set = get_or-set_same counts (other - 1) value 0 (in_range other (length counts) size more e) in
-        let above = up is in
-        let at : count counts from ≡ count counts other = rw is refl in
-        rw (is, set) (omega (arith, above, at))
-    settle (inr not_) =
-        let apart : (from - 1) ≢ (other - 1) = λ e. not_ (omega (arith, e, some, more)) in
-        let set = get_or-set_other counts (other - 1) (from - 1) value 0 apart in
-        rw set (omega arith)
+    after : Backlog
+    after = record old { waiting = slice_set old.waiting (t.node - 1) None; taking = Some (record { from = t.node; own = own_of told }); last = t.node }
 
-pub answered : (from told : ℕ) (asks : List ℕ) (known : KnownFronts) → 1 ≤ from → is_counted_by from known ≡ true
-    → is_owed from asks (told_by_it from told known) ≡ false → (told ≤ count asks from) ⊎ (told ≤ count known.front from)
-answered from told asks known some there owed =
-    settle (one_is (count asks from) (count (told_by_it from told known).untaken from) (count known.front from) owed)
+    was : own_taken from old.taking ≡ 0
+    was = ap (own_taken from) t.free
+
+    within : most_of from old ≤ most_of from after
+    within = elim (cases_eq from t.node) [
+      | inl is ↦
+          let counted = own_same from t.node (own_of told) is in
+          let waits : own_in (waiting_of from old) ≡ own_of told = ap own_in (subst (λ (n : ℕ). waiting_of n old ≡ Some told) (sym is) t.waits) in
+          let was = was in
+          omega (arith, counted, waits, was)
+      | inr apart ↦
+          let same : own_in (waiting_of from after) ≡ own_in (waiting_of from old) = ap own_in (elsewhere from t.node None old some t.first.some apart) in
+          let was = was in
+          omega (arith, same, was)
+    ]
+
+    up : most_of from old ≤ most_of from new
+    up = subst (λ (b : Backlog). most_of from old ≤ most_of from b) (sym t.rest) within
+
+-- a telling waits again that the journal couldn't take
+returned_if : (from : ℕ) (told : Told) (b : Backlog) (as_many : Bool) → HasPlaces b → 1 ≤ from → 1 ≤ told.from → told.from ≤ 8 → has_as_many (waiting_of told.from b) told ≡ as_many
+    → max (own_in (waiting_of from b)) (own_taken from (Some (record { from = told.from; own = own_of told })))
+    ≤ own_in (waiting_of from (if as_many then b else waiting_with told.from (Some told) b))
+returned_if from told b as_many places some least one e = elim (cases_eq from told.from) [
+  | inl is ↦
+      let counted = own_same from told.from (own_of told) is in
+      subst (λ (n : ℕ). max (own_in (waiting_of n b)) (own_taken n (Some (record { from = told.from; own = own_of told }))) ≤ own_in (waiting_of n (if as_many then b else waiting_with told.from (Some told) b)))
+      (sym is) (of_it as_many e)
+  | inr apart ↦
+      let none = own_none from told.from (own_of told) apart in
+      let same = of_others as_many apart in
+      omega (arith, none, same)
+]
   where
-    up : told ≤ count (told_by_it from told known).untaken from
-    up = let set = is_set from (max (count known.untaken from) told) known.untaken (length known.tellings) (is_counted_by from known) some there there in
-        omega (arith, set)
+    own_it : own_taken told.from (Some (record { from = told.from; own = own_of told })) ≡ own_of told
+    own_it = own_same told.from told.from (own_of told) refl
 
-    settle : (count (told_by_it from told known).untaken from ≤ count asks from) ⊎ (count (told_by_it from told known).untaken from ≤ count known.front from)
-        → (told ≤ count asks from) ⊎ (told ≤ count known.front from)
-    settle (inl is) = let more = up in inl (omega (arith, more, is))
-    settle (inr is) = let more = up in inr (omega (arith, more, is))
+    as_many_in : (waiting : Option Told) → has_as_many waiting told ≡ true → own_of told ≤ own_in waiting
+    as_many_in None h = absurd cc
+    as_many_in (Some other) h = leb-true (own_of told) (own_of other) h
 
-pub stays : (from other told : ℕ) (asks : List ℕ) (known : KnownFronts) → 1 ≤ from → 1 ≤ other → is_owed from asks known ≡ true → is_owed from asks (told_by_it other told known) ≡ true
-stays from other told asks known some more owed =
-    both_are (count asks from) (count known.untaken from) (count (told_by_it other told known).untaken from) (count known.front from)
-    (still from other (max (count known.untaken other) told) known.untaken (length known.tellings) (is_counted_by other known) some more refl
-    (λ is. let same : count known.untaken from ≡ count known.untaken other = rw is refl in omega (arith, same)))
-    owed
+    fewer_in : (waiting : Option Told) → has_as_many waiting told ≡ false → own_in waiting ≤ own_of told
+    fewer_in None h = omega arith
+    fewer_in (Some other) h = grind (arith, nat_tests, h)
 
-kept : (left told : ℕ) → 1 ≤ left → left_of left told ≡ told
-kept left told some = let none : (left == 0) ≡ false = grind (arith, nat_tests) in rw none refl
+    of_it : (b_as_many : Bool) → has_as_many (waiting_of told.from b) told ≡ b_as_many
+        → max (own_in (waiting_of told.from b)) (own_taken told.from (Some (record { from = told.from; own = own_of told })))
+        ≤ own_in (waiting_of told.from (if b_as_many then b else waiting_with told.from (Some told) b))
+    of_it true h = let it = own_it in let more = as_many_in (waiting_of told.from b) h in omega (arith, it, more)
+    of_it false h =
+        let it = own_it in
+        let fewer = fewer_in (waiting_of told.from b) h in
+        let now : own_in (waiting_of told.from (waiting_with told.from (Some told) b)) ≡ own_of told = ap own_in (here told.from (Some told) b places least one) in
+        omega (arith, it, fewer, now)
 
-pub left : (from other : ℕ) (asks : List ℕ) (known : KnownFronts) → 1 ≤ from → 1 ≤ other → (from ≡ other → 2 ≤ count known.tellings from)
-    → is_owed from asks known ≡ true → is_owed from asks (settled other known) ≡ true
-left from other asks known some more two owed =
-    both_are (count asks from) (count known.untaken from) (count (settled other known).untaken from) (count known.front from)
-    (still from other (left_of (count known.tellings other - 1) (count known.untaken other)) known.untaken (length known.tellings) (is_counted_by other known) some more refl
-    (λ is.
-    let many = two is in
-    let same : count known.untaken from ≡ count known.untaken other = rw is refl in
-    let alike : count known.tellings from ≡ count known.tellings other = rw is refl in
-    let all = kept (count known.tellings other - 1) (count known.untaken other) (omega (arith, many, alike)) in
-    omega (arith, all, same)))
-    owed
+    of_others : (b_as_many : Bool) → from ≢ told.from → own_in (waiting_of from b) ≤ own_in (waiting_of from (if b_as_many then b else waiting_with told.from (Some told) b))
+    of_others true apart = omega arith
+    of_others false apart = subst (λ (w : Option Told). own_in (waiting_of from b) ≤ own_in w) (sym (elsewhere from told.from (Some told) b some least apart)) (omega arith)
+
+pub kept : (now : Duration) (told : Told) (from : ℕ) (asks front : List ℕ) (old new : Backlog) → HasPlaces old → 1 ≤ from → 1 ≤ told.from → told.from ≤ 8
+    → old.taking ≡ Some (record { from = told.from; own = own_of told }) → IsKept now told old new
+    → is_owed from asks front old ≡ true → is_owed from asks front new ≡ true
+kept now told from asks front old new places some least one is k e = owed_by from asks front old new up e
+  where
+    waiting_is : waiting_of from new ≡ waiting_of from (after_return told old)
+    waiting_is =
+        ap (waiting_of from) k.rest
+        ∙ ap (λ (t : Option Taking). waiting_of from (record (after_return told (settled t true old)) { retry_at = new.retry_at; pause_ms = new.pause_ms })) is
+        ∙ same_waiting (has_as_many (waiting_of told.from old) told)
+      where
+        same_waiting : (as_many : Bool)
+            → waiting_of from (if as_many then settled (Some (record { from = told.from; own = own_of told })) true old else waiting_with told.from (Some told) (settled (Some (record { from = told.from; own = own_of told })) true old))
+            ≡ waiting_of from (if as_many then old else waiting_with told.from (Some told) old)
+        same_waiting true = refl
+        same_waiting false = refl
+
+    up : most_of from old ≤ most_of from new
+    up =
+        let returned = returned_if from told old (has_as_many (waiting_of told.from old) told) places some least one refl in
+        let waits = ap own_in waiting_is in
+        let counted = ap (own_taken from) is in
+        omega (arith, returned, waits, counted)
+
+-- the taking of another node's telling ends
+pub left : (taking : Taking) (is_taken : Bool) (from : ℕ) (asks front : List ℕ) (b : Backlog) → b.taking ≡ Some taking → from ≢ taking.from
+    → is_owed from asks front b ≡ true → is_owed from asks front (after_end is_taken b) ≡ true
+left taking is_taken from asks front b is apart e =
+    let none = own_none from taking.from taking.own apart in
+    let was = ap (own_taken from) is in
+    let same = waits is_taken in
+    owed_by from asks front b (after_end is_taken b) (omega (arith, none, was, same)) e
+  where
+    settled_same : (t : Option Taking) → own_in (waiting_of from (settled t false b)) ≡ own_in (waiting_of from b)
+    settled_same None = refl
+    settled_same (Some t) = refl
+
+    waits : (is_taken : Bool) → own_in (waiting_of from (after_end is_taken b)) ≡ own_in (waiting_of from b)
+    waits true = settled_same b.taking
+    waits false = settled_same b.taking

@@ -2,14 +2,17 @@
 use Rattle.std.proofs.Common.{◌≡◌, ◌≤◌, ◌⊎◌, ◌&&◌, ◌||◌, ◌∙◌, ℕ, Bool, true, false, Option, None, Some, arith, inl, inr, not, refl, subst, sym}
 use Rattle.std.proofs.lemmas.Bool.{leb-true, ltb-false, ltb-true}
 use Rattle.std.specs.Duration.{as_nanos}
+use Rattle.std.specs.List.{list_any}
 use Rattle.std.specs.Prelude.{if◌then◌else◌, is_some, length, nat_le, nat_lt}
 use Rattle.std.specs.declared.time.Duration.{Duration}
 use Rattle.node_schedule.specs.Pausing.{earlier}
+use Rattle.node_agenda.specs.Backlogs.{is_any_due, is_due_of, is_failed, nodes, waiting_of}
 use Rattle.node_agenda.specs.Mail.{Mail, is_wanted}
 use Rattle.node_agenda.specs.Moments.{earlier_of, is_by}
-use Rattle.node_agenda.specs.Resting.{has_task, is_occupied, looks_at, next_at, rests_until, that_or}
+use Rattle.node_agenda.specs.Resting.{counts_or_looks, has_task, is_occupied, looks_at, next_at, rests_until, that_or, tries_or}
 use Rattle.node_agenda.specs.Sweeps.{is_chore}
 use Rattle.node_agenda.specs.Tasks.{has, is_spared, may_enter}
+use Rattle.node_agenda.proofs.Circle.{any_there, none_of_all}
 use Rattle.node_agenda.specs.declared.task.OperatorWant.{OperatorWant}
 use Rattle.node_agenda.specs.declared.task.OperatorWant.TheVariants.{Command, Nothing, Question}
 use Rattle.node_agenda.specs.declared.turn.Turn.TheVariants.{OfChores, OfCount, OfDeadlines, OfDuties, OfErrand, OfLetters, OfTelling}
@@ -85,27 +88,60 @@ not_entered true true b o s e n = absurd cc
 not_entered true false false o s e n = absurd cc
 not_entered false spared b o s e n = absurd cc
 
-not_taken : (spared b : Bool) → spared ≡ false → b ≡ true → (not spared && b) ≡ false → ⊥
-not_taken false true s e n = absurd cc
-not_taken true b s e n = absurd cc
-not_taken false false s e n = absurd cc
+not_taken : (spared b : Bool) → spared ≡ false → (not spared && b) ≡ false → b ≡ false
+not_taken false b s n = n
+not_taken true b s n = absurd cc
 
 -- when the next timer fires, unless the journal is spared
-abbrev unheld : Mail → Duration
-unheld m = if m.known.is_to_count then earlier_of (looks_at m) m.known.counts_at else looks_at m
+abbrev unheld : Duration → Mail → Duration
+unheld now m = tries_or now m.backlog.retry_at (counts_or_looks m)
 
 -- if the journal is spared, until it isn't
-next_if : (m : Mail) (later : Duration) (spared : Bool) → is_spared later m ≡ false → (spared ≡ false → as_nanos (unheld m) ≤ as_nanos later)
-    → as_nanos (if spared then m.held_until else unheld m) ≤ as_nanos later
-next_if m later true free or_else = ltb-false (as_nanos later) (as_nanos m.held_until) free
-next_if m later false free or_else = or_else refl
+next_if : (m : Mail) (now later : Duration) (spared : Bool) → is_spared later m ≡ false → (spared ≡ false → as_nanos (unheld now m) ≤ as_nanos later)
+    → as_nanos (if spared then m.held_until else unheld now m) ≤ as_nanos later
+next_if m now later true free or_else = ltb-false (as_nanos later) (as_nanos m.held_until) free
+next_if m now later false free or_else = or_else refl
+
+-- what the journal couldn't take is tried at the earlier of two moments, or at another
+tries_by : (is_tried : Bool) (retry_at other later : Duration) → as_nanos other ≤ as_nanos later → as_nanos (if is_tried then other else earlier_of other retry_at) ≤ as_nanos later
+tries_by true retry_at other later le = le
+tries_by false retry_at other later le = let e = (first other retry_at).0 in omega (arith, e, le)
+
+unheld_by : (m : Mail) (now later : Duration) → as_nanos (counts_or_looks m) ≤ as_nanos later → as_nanos (unheld now m) ≤ as_nanos later
+unheld_by m now later le = tries_by (is_by now m.backlog.retry_at) m.backlog.retry_at (counts_or_looks m) later le
+
+retries_by : (is_tried : Bool) (retry_at other later : Duration) → is_tried ≡ false → as_nanos retry_at ≤ as_nanos later → as_nanos (if is_tried then other else earlier_of other retry_at) ≤ as_nanos later
+retries_by true retry_at other later none le = absurd cc
+retries_by false retry_at other later none le = let e = (first other retry_at).1 in omega (arith, e, le)
+
+-- if a telling is due later that isn't now, the pause before the next try is over by then
+tried_later : (waits failed now_by later_by : Bool) → (waits && (not failed || now_by)) ≡ false → (waits && (not failed || later_by)) ≡ true → (now_by ≡ false) × (later_by ≡ true)
+tried_later true true false true none some = (refl, refl)
+tried_later true true true later_by none some = absurd cc
+tried_later true true false false none some = absurd cc
+tried_later true false now_by later_by none some = absurd cc
+tried_later false failed now_by later_by none some = absurd cc
+
+taken_by : (m : Mail) (now later : Duration) → is_any_due now m.backlog ≡ false → is_any_due later m.backlog ≡ true → as_nanos (unheld now m) ≤ as_nanos later
+taken_by m now later none some =
+    let due = both (not (is_some m.backlog.taking)) (list_any (is_due_of later m.backlog) nodes) some in
+    let one = any_there (is_due_of later m.backlog) due.1 in
+    let idle = not_any (not (is_some m.backlog.taking)) (list_any (is_due_of now m.backlog) nodes) due.0 none in
+    let over = tried_later (is_some (waiting_of one.node m.backlog)) (is_failed one.node m.backlog) (is_by now m.backlog.retry_at) (is_by later m.backlog.retry_at)
+    (none_of_all (is_due_of now m.backlog) one.node one.least one.most idle) one.is
+    in
+    retries_by (is_by now m.backlog.retry_at) m.backlog.retry_at (counts_or_looks m) later over.0 (leb-true (as_nanos m.backlog.retry_at) (as_nanos later) over.1)
+  where
+    not_any : (a b : Bool) → a ≡ true → (a && b) ≡ false → b ≡ false
+    not_any true b is e = e
+    not_any false b is e = absurd cc
 
 -- for a kind of task that stores something
 entered_by : (m : Mail) (now later : Duration) (b : Bool) → (may_enter now m && b) ≡ false → (may_enter later m && b) ≡ true → as_nanos (next_at now m) ≤ as_nanos later
 entered_by m now later b none some =
     let h = both (may_enter later m) b some in
     let may = both m.opening.is_open (not (is_spared later m)) h.0 in
-    next_if m later (is_spared now m) (not_true (is_spared later m) may.1) (λ free. absurd (not_entered m.opening.is_open (is_spared now m) b may.0 free h.1 none))
+    next_if m now later (is_spared now m) (not_true (is_spared later m) may.1) (λ free. absurd (not_entered m.opening.is_open (is_spared now m) b may.0 free h.1 none))
 
 wanted_by : (m : Mail) (now later : Duration) (wanted : OperatorWant) → is_wanted (may_enter now m) wanted ≡ false → is_wanted (may_enter later m) wanted ≡ true → as_nanos (next_at now m) ≤ as_nanos later
 wanted_by m now later Nothing none some = absurd cc
@@ -121,20 +157,21 @@ next_by m now later same none some =
       | inl ticks ↦
           let h = both (may_enter later m) (is_by later m.asking.ticks_at) ticks in
           let may = both m.opening.is_open (not (is_spared later m)) h.0 in
-          next_if m later (is_spared now m) (not_true (is_spared later m) may.1)
-          (λ free. counted_if m.known.is_to_count (looks_at m) m.known.counts_at later (looks m later may.0 (leb-true (as_nanos m.asking.ticks_at) (as_nanos later) h.1)))
+          next_if m now later (is_spared now m) (not_true (is_spared later m) may.1)
+          (λ free. unheld_by m now later (counted_if m.known.is_to_count (looks_at m) m.known.counts_at later (looks m later may.0 (leb-true (as_nanos m.asking.ticks_at) (as_nanos later) h.1))))
       | inr more ↦ elim more as (λ _. Goal) [
         | inl counts ↦
             let h = both (not (is_spared later m)) (m.known.is_to_count && is_by later m.known.counts_at) counts in
             let is = both m.known.is_to_count (is_by later m.known.counts_at) h.1 in
-            next_if m later (is_spared now m) (not_true (is_spared later m) h.0)
-            (λ free. counted m.known.is_to_count (looks_at m) m.known.counts_at later is.0 (leb-true (as_nanos m.known.counts_at) (as_nanos later) is.1))
+            next_if m now later (is_spared now m) (not_true (is_spared later m) h.0)
+            (λ free. unheld_by m now later (counted m.known.is_to_count (looks_at m) m.known.counts_at later is.0 (leb-true (as_nanos m.known.counts_at) (as_nanos later) is.1)))
         | inr more ↦ elim more as (λ _. Goal) [
           | inl letters ↦ entered_by m now later (nat_lt 0 (length m.letters)) none.letters letters
           | inr more ↦ elim more as (λ _. Goal) [
             | inl telling ↦
-                let h = both (not (is_spared later m)) (is_some m.telling) telling in
-                next_if m later (is_spared now m) (not_true (is_spared later m) h.0) (λ free. absurd (not_taken (is_spared now m) (is_some m.telling) free h.1 none.telling))
+                let h = both (not (is_spared later m)) (is_any_due later m.backlog) telling in
+                next_if m now later (is_spared now m) (not_true (is_spared later m) h.0)
+                (λ free. taken_by m now later (not_taken (is_spared now m) (is_any_due now m.backlog) free none.telling) h.1)
             | inr more ↦ elim more as (λ _. Goal) [
               | inl duties ↦ entered_by m now later m.asking.is_stirred none.duties duties
               | inr more ↦ elim more as (λ _. Goal) [

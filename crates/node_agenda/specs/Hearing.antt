@@ -1,5 +1,5 @@
 -- What is put for the caller threads, and what their calls resulted in.
-use Rattle.std.specs.Prelude.{◌≡◌, ◌≢◌, ◌<◌, ◌⊎◌, ◌++◌, ◌∷◌, [], Bool, true, false, List, Option, None, Some, IsTrue, MatchBool, Result, MatchResult, if◌then◌else◌, length, nat_lt}
+use Rattle.std.specs.Prelude.{◌≡◌, ◌<◌, ◌⊎◌, ◌++◌, ◌∷◌, [], Bool, true, false, List, Option, None, Some, IsTrue, MatchBool, Result, MatchResult, if◌then◌else◌, length, nat_lt}
 use Rattle.std.specs.Duration.{as_nanos}
 use Rattle.std.specs.declared.time.Duration.{Duration}
 use Rattle.state_ids.specs.Fronts.{IsBelow}
@@ -23,9 +23,9 @@ use Rattle.node_schedule.specs.declared.pace.Pace.{Pace}
 use Rattle.node_schedule.specs.declared.pace.Pace.TheVariants.{Hanging, Quick, Refusing, Slow}
 use Rattle.node_schedule.specs.declared.plight.Plight.{Plight}
 use Rattle.node_schedule.specs.declared.slip.Called.{Called}
-use Rattle.node_agenda.specs.Mail.{Mail, after_news, put_off, stirred, with_asking, with_calls, with_letters, with_opening, with_since, with_telling}
+use Rattle.node_agenda.specs.Backlogs.{IsKept, after_put, left_over}
+use Rattle.node_agenda.specs.Mail.{Mail, after_news, put_off, stirred, with_asking, with_backlog, with_calls, with_letters, with_since}
 use Rattle.node_agenda.specs.Since.{IsAnswerNotedIf, PausesEach, asked_now, at_rest, unheard}
-use Rattle.node_agenda.specs.Starts.{with_awaited}
 
 -- A list replaces the duties: the calls that are due are those of the list, none other and none
 -- twice; a participant that is being called is left alone, and no call under way counts as being
@@ -122,13 +122,16 @@ pub record IsNoted (said : Said) (now : Duration) (old new : Mail) : Type 0 wher
   pub answered : MatchBool waits (new.calls ≡ old.calls) (IsAnswered said.heard (called_of said.duty) now old.calls new.calls)
   pub rest : new ≡ after_news (is_harmless said.duty.kind said.duty.act) (with_calls new.calls (with_since new.since old))
 
--- a telling of another node waits to be taken, unless one already waits
-abbrev pub IsHandedOver : Told → Mail → Mail → Bool → Type 0
-IsHandedOver told old new is_put = MatchBool is_put ((old.telling ≡ None) × (new ≡ with_telling (Some told) old)) ((old.telling ≢ None) × (new ≡ old))
+-- a telling of another node waits to be taken, unless nothing in it is new
+abbrev pub HasNews : Told → Mail → Type 0
+HasNews told m = (length told.frame.front ≡ length m.known.front) × (IsBelow told.frame.front m.known.front → ⊥)
 
--- the same for a telling that commands must wait for: not if the program is to end, or if nothing
--- in it is new
-abbrev pub IsAwaited : Told → Mail → Mail → Bool → Type 0
-IsAwaited told old new is_put =
-    MatchBool is_put (new ≡ with_opening (with_awaited told.frame.front old.opening) (with_telling (Some told) old))
-    ((IsTrue old.has_ended ⊎ ((length told.frame.front ≢ length old.known.front) ⊎ IsBelow told.frame.front old.known.front)) × (new ≡ old))
+abbrev pub IsPutIn : Told → Mail → Mail → Result (Option Told) Told → Type 0
+IsPutIn told old new result =
+    MatchResult result (λ (left : Option Told). HasNews told old × (left ≡ left_over told old.backlog) × (new ≡ with_backlog (after_put told old.backlog) old))
+    (λ (back : Told). (HasNews told old → ⊥) × (back ≡ told) × (new ≡ old))
+
+-- one that the journal couldn't take waits again
+pub record IsReturned (now : Duration) (told : Told) (old new : Mail) : Type 0 where
+  pub kept : IsKept now told old.backlog new.backlog
+  pub rest : new ≡ with_backlog new.backlog old

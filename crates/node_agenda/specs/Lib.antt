@@ -1,4 +1,5 @@
 pub mod Asks
+pub mod Backlogs
 pub mod Censuses
 pub mod Hearing
 pub mod Kept

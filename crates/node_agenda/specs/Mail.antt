@@ -4,21 +4,22 @@ use Rattle.std.specs.List.{list_any}
 use Rattle.std.specs.Duration.{as_nanos}
 use Rattle.std.specs.declared.time.Duration.{Duration}
 use Rattle.state_ids.specs.Fronts.{count, join_fronts}
-use Rattle.node_inbox.specs.Tellings.{Told}
 use Rattle.node_inbox.specs.Letters.{Said}
 use Rattle.node_schedule.specs.Calling.{Calling}
 use Rattle.node_schedule.specs.Slips.{at_once}
 use Rattle.node_schedule.specs.Turns.{is_due}
+use Rattle.node_agenda.specs.Backlogs.{after_end}
 use Rattle.node_agenda.specs.Since.{Since}
 use Rattle.node_agenda.specs.Sweeps.{Sweeps}
 use Rattle.node_agenda.specs.declared.asking.Asking.{Asking}
+use Rattle.node_agenda.specs.declared.backlog.Backlog.{Backlog}
 use Rattle.node_agenda.specs.declared.known_fronts.KnownFronts.{KnownFronts}
 use Rattle.node_agenda.specs.declared.start_state.StartState.{StartState}
 use Rattle.node_agenda.specs.declared.task.OperatorWant.{OperatorWant}
 use Rattle.node_agenda.specs.declared.task.OperatorWant.TheVariants.{Command, Nothing, Question}
 use Rattle.node_agenda.specs.declared.turn.Turn.{Turn}
 
--- Whom to call; the letters that aren't stored yet, oldest first; a telling that waits to be taken;
+-- Whom to call; the letters that aren't stored yet, oldest first; what other nodes sent that isn't;
 -- what is known of how many facts there are; whether commands are accepted yet; when deadlines are
 -- checked, and when a new list of duties is asked for; until when nothing is stored because the
 -- journal failed; which kind of task had its turn last; whether the writer thread is to check
@@ -27,7 +28,7 @@ use Rattle.node_agenda.specs.declared.turn.Turn.{Turn}
 pub record Mail : Type 0 where
   pub calls : Calling
   pub letters : List Said
-  pub telling : Option Told
+  pub backlog : Backlog
   pub known : KnownFronts
   pub opening : StartState
   pub asking : Asking
@@ -46,8 +47,8 @@ with_calls calls m = record m { calls = calls }
 abbrev pub with_letters : List Said → Mail → Mail
 with_letters letters m = record m { letters = letters }
 
-abbrev pub with_telling : Option Told → Mail → Mail
-with_telling telling m = record m { telling = telling }
+abbrev pub with_backlog : Backlog → Mail → Mail
+with_backlog backlog m = record m { backlog = backlog }
 
 abbrev pub with_known : KnownFronts → Mail → Mail
 with_known known m = record m { known = known }
@@ -93,45 +94,21 @@ is_any Command = true
 
 -- after it is known that the node has at least these facts of each node
 abbrev pub learnt : List ℕ → KnownFronts → KnownFronts
-learnt front known = record { front = if length known.front == length front then join_fronts known.front front else known.front; is_counted = known.is_counted; is_to_count = known.is_to_count; counts_at = known.counts_at; untaken = known.untaken; tellings = known.tellings }
+learnt front known = record { front = if length known.front == length front then join_fronts known.front front else known.front; is_counted = known.is_counted; is_to_count = known.is_to_count; counts_at = known.counts_at }
 
 -- after it is known how many facts it has; and after that is to be asked
 abbrev pub counted : KnownFronts → KnownFronts
-counted known = record { front = known.front; is_counted = true; is_to_count = known.is_to_count; counts_at = known.counts_at; untaken = known.untaken; tellings = known.tellings }
+counted known = record { front = known.front; is_counted = true; is_to_count = known.is_to_count; counts_at = known.counts_at }
 
 abbrev pub to_count : KnownFronts → KnownFronts
-to_count known = record { front = known.front; is_counted = known.is_counted; is_to_count = true; counts_at = known.counts_at; untaken = known.untaken; tellings = known.tellings }
+to_count known = record { front = known.front; is_counted = known.is_counted; is_to_count = true; counts_at = known.counts_at }
 
--- after another node sent at most this many facts of its own in tellings that are neither taken nor
--- given up yet, and this many of its tellings are left
-abbrev pub is_counted_by : (other : ℕ) → KnownFronts → Bool
-is_counted_by other known = nat_le other (length known.untaken) && nat_le other (length known.tellings)
+-- after the end of a telling with this front, which was taken or is given up
+abbrev pub learnt_if : (is_taken : Bool) → List ℕ → KnownFronts → KnownFronts
+learnt_if is_taken front known = if is_taken then learnt front known else known
 
-abbrev pub set_if : Bool → (other value : ℕ) → List ℕ → List ℕ
-set_if fits other value counts = if fits then slice_set counts (other - 1) value else counts
-
-abbrev pub with_untaken : (other told left : ℕ) → KnownFronts → KnownFronts
-with_untaken other told left known = record { front = known.front; is_counted = known.is_counted; is_to_count = known.is_to_count; counts_at = known.counts_at; untaken = set_if (is_counted_by other known) other told known.untaken; tellings = set_if (is_counted_by other known) other left known.tellings }
-
--- after it sent one more telling, with this many
-abbrev pub told_by_it : (other told : ℕ) → KnownFronts → KnownFronts
-told_by_it other told known = with_untaken other (max (count known.untaken other) told) (min (count known.tellings other) 99 + 1) known
-
--- after one of its tellings is taken or given up: with the last one, nothing is untaken any more
-abbrev pub left_of : (left told : ℕ) → ℕ
-left_of left told = if left == 0 then 0 else told
-
-abbrev pub settled : (other : ℕ) → KnownFronts → KnownFronts
-settled other known = with_untaken other (left_of (count known.tellings other - 1) (count known.untaken other)) (count known.tellings other - 1) known
-
--- after the end of a telling with this front, which was taken or wasn't
-abbrev pub ended_by : (other : ℕ) → List ℕ → (is_taken : Bool) → KnownFronts → KnownFronts
-ended_by other front is_taken known = settled other (if is_taken then learnt front known else known)
-
--- a node that asks is owed facts of its own: it sent more of them than it counts, and they aren't
--- stored here yet
-abbrev pub is_owed : (from : ℕ) → (asks : List ℕ) → KnownFronts → Bool
-is_owed from asks known = nat_lt (count asks from) (count known.untaken from) && nat_lt (count known.front from) (count known.untaken from)
+abbrev pub with_end_of : (is_taken : Bool) → List ℕ → Mail → Mail
+with_end_of is_taken front m = with_backlog (after_end is_taken m.backlog) (with_known (learnt_if is_taken front m.known) m)
 
 -- after a new list of duties is to be asked for: now, or when deadlines are next checked
 abbrev pub stirred : Asking → Asking

@@ -4,7 +4,7 @@ use Rattle.std.specs.Duration.{as_nanos}
 use Rattle.std.specs.declared.time.Duration.{Duration}
 use Rattle.node_schedule.specs.Pausing.{earlier}
 use Rattle.node_agenda.specs.Mail.{Mail}
-use Rattle.node_agenda.specs.Moments.{earlier_of}
+use Rattle.node_agenda.specs.Moments.{earlier_of, is_by}
 use Rattle.node_agenda.specs.Tasks.{has, is_spared}
 use Rattle.node_agenda.specs.declared.turn.Turn.TheVariants.{OfChores, OfCount, OfDeadlines, OfDuties, OfErrand, OfLetters, OfTelling}
 
@@ -22,9 +22,17 @@ that_or (Some at) other = at
 abbrev pub looks_at : Mail → Duration
 looks_at m = if m.opening.is_open then m.asking.ticks_at else that_or m.opening.opens_at m.asking.ticks_at
 
+-- the same, or when facts are counted, if they are to be; and when what the journal couldn't take is
+-- tried again, if that moment is yet to come
+abbrev pub counts_or_looks : Mail → Duration
+counts_or_looks m = if m.known.is_to_count then earlier_of (looks_at m) m.known.counts_at else looks_at m
+
+abbrev pub tries_or : Duration → (retry_at other : Duration) → Duration
+tries_or now retry_at other = if is_by now retry_at then other else earlier_of other retry_at
+
 -- when the next timer fires
 abbrev pub next_at : Duration → Mail → Duration
-next_at now m = if is_spared now m then m.held_until else (if m.known.is_to_count then earlier_of (looks_at m) m.known.counts_at else looks_at m)
+next_at now m = if is_spared now m then m.held_until else tries_or now m.backlog.retry_at (counts_or_looks m)
 
 -- the latest moment with something to do: when the next timer fires, or when a pause is over
 abbrev pub rests_until : Duration → Mail → Duration

@@ -1,11 +1,12 @@
 -- What the writer thread does next: the kinds of tasks take turns, so that none waits for ever for
 -- others.
-use Rattle.std.specs.Prelude.{⊤, ◌≡◌, ◌≤◌, ◌-◌, ◌+◌, ◌∷◌, ◌&&◌, ℕ, Bool, true, false, Option, None, Some, MatchBool, if◌then◌else◌, is_some, length, nat_lt, not}
+use Rattle.std.specs.Prelude.{⊤, ◌≡◌, ◌≤◌, ◌-◌, ◌+◌, ◌∷◌, ◌&&◌, ℕ, Bool, true, false, Option, None, Some, MatchBool, if◌then◌else◌, length, nat_lt, not}
 use Rattle.std.specs.Duration.{as_nanos}
 use Rattle.std.specs.declared.time.Duration.{Duration}
 use Rattle.node_inbox.specs.Tellings.{Told}
 use Rattle.node_inbox.specs.Letters.{Said}
-use Rattle.node_agenda.specs.Mail.{Mail, asked, is_anyone, is_wanted, looked, with_asking, with_hurry, with_known, with_last, with_letters, with_sweeps, with_telling, with_wanted}
+use Rattle.node_agenda.specs.Backlogs.{IsTakenNext, is_any_due}
+use Rattle.node_agenda.specs.Mail.{Mail, asked, is_anyone, is_wanted, looked, with_asking, with_hurry, with_known, with_backlog, with_last, with_letters, with_sweeps, with_wanted}
 use Rattle.node_agenda.specs.Moments.{IsAfter, is_by}
 use Rattle.node_agenda.specs.Sweeps.{IsNextChore, is_chore}
 use Rattle.node_agenda.specs.declared.sweep.Chore.{Chore}
@@ -54,7 +55,7 @@ abbrev pub has : Duration → Mail → Turn → Bool
 has now m OfDeadlines = may_enter now m && is_by now m.asking.ticks_at
 has now m OfCount = not (is_spared now m) && (m.known.is_to_count && is_by now m.known.counts_at)
 has now m OfLetters = may_enter now m && nat_lt 0 (length m.letters)
-has now m OfTelling = not (is_spared now m) && is_some m.telling
+has now m OfTelling = not (is_spared now m) && is_any_due now m.backlog
 has now m OfDuties = may_enter now m && m.asking.is_stirred
 has now m OfChores = may_enter now m && is_chore now m.sweeps
 has now m OfErrand = is_wanted (may_enter now m) m.wanted
@@ -79,7 +80,7 @@ pub record LooksAtDeadlines (now : Duration) (old new : Mail) (task : Task) : Ty
 pub record AsksForCount (now : Duration) (old new : Mail) (task : Task) : Type 0 where
   pub is : task ≡ Count
   pub next : IsAfter 50 now new.known.counts_at
-  pub rest : new ≡ with_last OfCount (with_known (record { front = old.known.front; is_counted = old.known.is_counted; is_to_count = false; counts_at = new.known.counts_at; untaken = old.known.untaken; tellings = old.known.tellings }) old)
+  pub rest : new ≡ with_last OfCount (with_known (record { front = old.known.front; is_counted = old.known.is_counted; is_to_count = false; counts_at = new.known.counts_at }) old)
 
 -- the oldest letter is stored
 pub record EntersFirst (old new : Mail) (task : Task) : Type 0 where
@@ -88,12 +89,12 @@ pub record EntersFirst (old new : Mail) (task : Task) : Type 0 where
   pub first : old.letters ≡ letter ∷ new.letters
   pub rest : new ≡ with_last OfLetters (with_letters new.letters old)
 
--- the telling that waits is taken
-pub record TakesTold (old new : Mail) (task : Task) : Type 0 where
+-- a telling that waits is taken, node by node in turn
+pub record TakesTold (now : Duration) (old new : Mail) (task : Task) : Type 0 where
   pub told : Told
   pub is : task ≡ Take told
-  pub waits : old.telling ≡ Some told
-  pub rest : new ≡ with_last OfTelling (with_telling None old)
+  pub next : IsTakenNext now old.backlog new.backlog (Some told)
+  pub rest : new ≡ with_last OfTelling (with_backlog new.backlog old)
 
 -- the home is swept: the next chore is done
 pub record DoesChore (now : Duration) (old new : Mail) (task : Task) : Type 0 where
@@ -107,7 +108,7 @@ abbrev pub Does : Duration → Turn → Mail → Mail → Task → Type 0
 Does now OfDeadlines old new task = LooksAtDeadlines now old new task
 Does now OfCount old new task = AsksForCount now old new task
 Does now OfLetters old new task = EntersFirst old new task
-Does now OfTelling old new task = TakesTold old new task
+Does now OfTelling old new task = TakesTold now old new task
 Does now OfChores old new task = DoesChore now old new task
 Does now OfErrand old new task = (task ≡ Errand old.wanted) × (new ≡ with_last OfErrand (with_wanted Nothing old))
 Does now OfDuties old new task = (task ≡ Ask) × (new ≡ with_last OfDuties (with_asking (asked now old.asking) old))

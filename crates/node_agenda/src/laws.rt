@@ -1,6 +1,6 @@
 // Laws of the agenda: turns of tasks, starts, purges, and callbacks that are put off. Each function
 // does nothing, and its contract is the law.
-ghost use Rattle.std.specs.Prelude.{◌≡◌, ◌⊎◌, ◌<◌, ◌≤◌, [], ℕ, Bool, List, None, Option, Some, false, length, true};
+ghost use Rattle.std.specs.Prelude.{◌≡◌, ◌≢◌, ◌⊎◌, ◌<◌, ◌≤◌, [], ℕ, Bool, List, None, Option, Some, false, length, true};
 ghost use Rattle.std.specs.Duration.{as_nanos};
 ghost use Rattle.std.specs.declared.time.Duration.{Duration as TheDuration};
 ghost use Rattle.state_ids.specs.Fronts.{count};
@@ -8,19 +8,22 @@ ghost use Rattle.state_ids.specs.Ids.{Id};
 ghost use Rattle.state_ids.specs.declared.status.LraStatus.{LraStatus as TheStatus};
 ghost use Rattle.wire_callbacks.specs.declared.duty.Duty.{Duty};
 ghost use Rattle.node_inbox.specs.Letters.{Said};
+ghost use Rattle.node_inbox.specs.Tellings.{Told};
 ghost use Rattle.node_schedule.specs.Named.{AllNamed};
 ghost use Rattle.node_schedule.specs.Slips.{called_of};
 ghost use Rattle.node_schedule.specs.declared.slip.Called.{Called as TheCalled};
 ghost use Rattle.node_agenda.specs.Hearing.{IsListed, IsNoted};
 ghost use Rattle.node_agenda.specs.Kept.{Kept};
-ghost use Rattle.node_agenda.specs.Mail.{Mail, is_counted_by, is_owed, settled, told_by_it};
+ghost use Rattle.node_agenda.specs.Backlogs.{HasPlaces, IsFirstBehind, IsKept, IsTaken, after_end, after_put, is_owed, no_backlog, own_of, steps_to};
+ghost use Rattle.node_agenda.specs.Mail.{Mail};
 ghost use Rattle.node_agenda.specs.Noted.{Notes, freed_by, with_became};
 ghost use Rattle.node_agenda.specs.Since.{IsHeardIn, is_unheard};
 ghost use Rattle.node_agenda.specs.declared.effects.Became.{Became as TheBecame};
 ghost use Rattle.node_agenda.specs.declared.effects.Effects.{Effects as TheNoted};
 ghost use Rattle.node_agenda.specs.Resting.{has_task, is_occupied, rests_until};
 ghost use Rattle.node_agenda.specs.Sweeps.{AreSince, IsNextChore, IsSeen, Root, Sight, Sweeps, WasKept, first_due, is_chore, kept_of, last_seen, left_by, next_pause, sights_after, sweeps, time_of, turned};
-ghost use Rattle.node_agenda.specs.declared.known_fronts.KnownFronts.{KnownFronts as TheKnown};
+ghost use Rattle.node_agenda.specs.declared.backlog.Backlog.{Backlog as TheBacklog};
+ghost use Rattle.node_agenda.specs.declared.backlog.Taking.{Taking as TheTaking};
 ghost use Rattle.node_agenda.specs.declared.sweep.Chore.{Chore as TheChore};
 ghost use Rattle.node_agenda.specs.declared.sweep.Chore.TheVariants.{List as ToList, Purge};
 ghost use Rattle.node_agenda.specs.declared.sweep.Purged.{Purged as ThePurged};
@@ -102,16 +105,34 @@ pub fn nothing_is_entered_before_the_others_are_heard()
 
 /// A node that is answered lacks none of its own facts that it sent here, except those that are
 /// stored here and so are in the answer. What it is owed stays owed until that is stored or given
-/// up, whatever else is heard, taken or given up.
+/// up: whatever else comes, is being taken, is taken or given up, and also if the journal couldn't
+/// take it, so that it waits again.
 pub fn who_is_answered_lacks_nothing_that_it_told()
-    ensures told { (from told : ℕ) (asks : List ℕ) (known : TheKnown) → 1 ≤ from → is_counted_by from known ≡ true →
-        is_owed from asks (told_by_it from told known) ≡ false →
-        (told ≤ count asks from) ⊎ (told ≤ count known.front from) }
-    ensures stays { (from other told : ℕ) (asks : List ℕ) (known : TheKnown) → 1 ≤ from → 1 ≤ other →
-        is_owed from asks known ≡ true → is_owed from asks (told_by_it other told known) ≡ true }
-    ensures left { (from other : ℕ) (asks : List ℕ) (known : TheKnown) → 1 ≤ from → 1 ≤ other →
-        (from ≡ other → 2 ≤ count known.tellings from) →
-        is_owed from asks known ≡ true → is_owed from asks (settled other known) ≡ true }
+    ensures told { (told : Told) (asks front : List ℕ) (b : TheBacklog) → HasPlaces b → 1 ≤ told.from → told.from ≤ 8 →
+        is_owed told.from asks front (after_put told b) ≡ false →
+        (own_of told ≤ count asks told.from) ⊎ (own_of told ≤ count front told.from) }
+    ensures put { (told : Told) (from : ℕ) (asks front : List ℕ) (b : TheBacklog) → HasPlaces b → 1 ≤ from →
+        1 ≤ told.from → told.from ≤ 8 →
+        is_owed from asks front b ≡ true → is_owed from asks front (after_put told b) ≡ true }
+    ensures taken { (now : TheDuration) (from : ℕ) (asks front : List ℕ) (old new : TheBacklog) (told : Told) →
+        HasPlaces old → 1 ≤ from → IsTaken now old new told →
+        is_owed from asks front old ≡ true → is_owed from asks front new ≡ true }
+    ensures kept { (now : TheDuration) (told : Told) (from : ℕ) (asks front : List ℕ) (old new : TheBacklog) →
+        HasPlaces old → 1 ≤ from → 1 ≤ told.from → told.from ≤ 8 →
+        old.taking ≡ Some (record { from = told.from; own = own_of told }) → IsKept now told old new →
+        is_owed from asks front old ≡ true → is_owed from asks front new ≡ true }
+    ensures left { (taking : TheTaking) (is_taken : Bool) (from : ℕ) (asks front : List ℕ) (b : TheBacklog) →
+        b.taking ≡ Some taking → from ≢ taking.from →
+        is_owed from asks front b ≡ true → is_owed from asks front (after_end is_taken b) ≡ true }
+    ensures empty { (me : ℕ) → HasPlaces (no_backlog me) }
+{}
+
+/// What a node sent waits for at most one telling of each other node: while it is to be taken, it is
+/// taken, or its turn comes nearer.
+pub fn each_node_has_its_turn()
+    ensures { (is_there : ℕ → Bool) (last next node : ℕ) → 1 ≤ last → last ≤ 8 → 1 ≤ node → node ≤ 8 →
+        IsFirstBehind last is_there next → is_there node ≡ true →
+        (next ≡ node) ⊎ (steps_to next node < steps_to last node) }
 {}
 
 /// No list calls a participant for what was learned after the list was asked for. While a list is

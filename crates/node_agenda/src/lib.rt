@@ -5,6 +5,7 @@
 
 mod asking;
 mod asks;
+mod backlog;
 mod census;
 mod effects;
 mod heard_since;
@@ -20,6 +21,7 @@ mod task;
 mod turn;
 
 pub use asks::Asks;
+pub use backlog::{FIRST_RETRY_MS, LAST_RETRY_MS};
 pub use census::STATUSES;
 pub use effects::{Became, Effects, NewlyDue};
 pub use looking::MANY;

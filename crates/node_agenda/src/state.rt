@@ -4,21 +4,23 @@ ghost use Rattle.node_schedule.specs.Calling.{nothing};
 ghost use Rattle.node_schedule.specs.Resuming.{ResumesAt};
 ghost use Rattle.node_schedule.specs.Slips.{at_once};
 ghost use Rattle.node_schedule.specs.Turns.{MayTake};
-ghost use Rattle.node_agenda.specs.Hearing.{HearsOf, IsAnswered, IsAskedNow, IsAwaited, IsDueFrom, IsHandedOver, IsLetGo, IsListed, IsNoted, IsPut, IsPutLast, is_harmless, pace_of};
+ghost use Rattle.node_agenda.specs.Hearing.{HearsOf, IsAnswered, IsAskedNow, IsDueFrom, IsLetGo, IsListed, IsNoted, IsPut, IsPutIn, IsPutLast, IsReturned, is_harmless, pace_of};
 ghost use Rattle.node_agenda.specs.Since.{PausesEach, at_rest};
+ghost use Rattle.node_agenda.specs.Backlogs.{ended_of, is_kept, is_owed, is_queued, no_backlog, not_returned};
 ghost use Rattle.node_agenda.specs.Moments.{earlier_of};
-ghost use Rattle.node_agenda.specs.Mail.{after_news, counted, ended_by, hastened, is_any, is_anyone, is_owed, learnt, settled, to_count, told_by_it, with_asking, with_calls, with_end, with_hold, with_hurry, with_known, with_opening, with_sweeps, with_wanted};
+ghost use Rattle.node_agenda.specs.Mail.{after_news, counted, hastened, is_any, is_anyone, learnt, to_count, with_asking, with_calls, with_end, with_end_of, with_hold, with_hurry, with_known, with_opening, with_sweeps, with_wanted};
 ghost use Rattle.node_agenda.specs.Noted.{Notes, with_news};
 ghost use Rattle.node_agenda.specs.Sweeps.{IsSeen, fill_of, left_by, turned, with_full};
 ghost use Rattle.state_ids.specs.Fronts.{count};
 ghost use Rattle.state_ids.specs.declared.TheConstants.{MAX_NODES};
 ghost use Rattle.node_agenda.specs.Starts.{IsOpened, claim_of, claimed_by, heard_by, heard_with, own_awaited, patient};
-ghost use Rattle.node_agenda.specs.Resting.{IsIdleFor, has_task, is_occupied, looks_at, next_at, rests_until};
+ghost use Rattle.node_agenda.specs.Resting.{IsIdleFor, has_task, is_occupied, looks_at, next_at, rests_until, tries_or};
 ghost use Rattle.node_agenda.specs.Tasks.{Does, IsNextKind, IsNextTask, has, is_spared, may_enter};
 ghost use Rattle.node_agenda.specs.declared.task.OperatorWant.TheVariants.{Nothing};
 ghost use Rattle.node_agenda.specs.declared.turn.Turn.TheVariants.{OfDuties as TheDuties};
 
 use crate::asking::Asking;
+use crate::backlog::Backlog;
 use crate::census::STATUSES;
 use crate::effects::{Effects, NewlyDue};
 use crate::heard_since::{HeardSince, pause_each};
@@ -80,7 +82,8 @@ fn earlier_of(one: Duration, other: Duration) -> Duration
 pub struct MailboxState {
     calls: Schedule,
     letters: VecDeque<Letter>,
-    telling: Option<Telling>,
+    /// What other nodes sent that isn't stored yet.
+    backlog: Backlog,
     known: KnownFronts,
     opening: StartState,
     asking: Asking,
@@ -107,7 +110,7 @@ impl Model for MailboxState {
     ghost view = { λ m. record {
       calls = m.calls;
       letters = m.letters.items;
-      telling = m.telling;
+      backlog = m.backlog;
       known = m.known;
       opening = m.opening;
       asking = m.asking;
@@ -138,8 +141,8 @@ impl MailboxState {
         ensures { result ≡ record {
           calls = nothing;
           letters = [];
-          telling = None;
-          known = record { front = replicate nodes 0; is_counted = false; is_to_count = are_apart; counts_at = at_once; untaken = replicate nodes 0; tellings = replicate nodes 0 };
+          backlog = no_backlog me;
+          known = record { front = replicate nodes 0; is_counted = false; is_to_count = are_apart; counts_at = at_once };
           opening = record { me = me; waits_for_all = waits_for_all; is_open = not are_apart; opens_at = None; is_late = false; heard = heard_with me (replicate nodes 0); awaited = replicate nodes 0; claimed = replicate nodes 0; doubtful = replicate nodes 0 };
           asking = record { is_stirred = true; is_put_off = false; asked_at = at_once; ticks_at = at_once };
           held_until = at_once;
@@ -154,7 +157,7 @@ impl MailboxState {
         MailboxState {
             calls: Schedule::new(alloc),
             letters: VecDeque::new(alloc),
-            telling: None,
+            backlog: Backlog::new(me),
             known: KnownFronts::new(nodes, are_apart),
             opening: StartState::new(me, nodes, are_apart, waits_for_all),
             asking: Asking::new(),
@@ -354,30 +357,69 @@ impl MailboxState {
         self.known.is_to_count = true;
     }
 
-    /// Records that another node answered, and what it sent.
+    /// Records that another node answered, and what it sent. A start waits until that is taken.
     pub fn note_heard(&mut self, other: NodeId, telling: &Telling)
-        ensures { self.new ≡ with_known (told_by_it other (count telling.now.frame.front other) self.old.known) (with_opening
-            (heard_by other telling.now.frame.front self.old.known.front self.old.opening) self.old) }
+        ensures { self.new ≡ with_opening
+            (heard_by other telling.now.frame.front self.old.known.front self.old.opening) self.old }
     {
         let (told, known) = (telling.front(), self.known.front);
         self.opening.hear(other, &told, &known);
-        self.known.hear(other, told.count(other));
     }
 
-    /// Records that a telling of another node isn't put: nothing in it is new, or the program is to
-    /// end.
-    pub fn drop_telling(&mut self, other: NodeId)
-        ensures { self.new ≡ with_known (settled other self.old.known) self.old }
+    /// Puts a telling of another node to be taken, in place of the one of that node that waits,
+    /// unless that counts more facts of the node. Returns the one that then doesn't wait, if there
+    /// are two. Errors: the telling, if nothing in it is new.
+    pub fn put_telling(&mut self, telling: Telling) -> Result<Option<Telling>, Telling>
+        ensures { IsPutIn telling self.old self.new result }
     {
-        self.known.settle(other);
+        let told = telling.front();
+        if told.nodes() != self.known.front.nodes() || told.below(&self.known.front) {
+            return Err(telling);
+        }
+        Ok(self.backlog.put(telling))
     }
 
-    /// Records the end of a telling of another node, which has this front: it was taken here, or
-    /// won't be.
-    pub fn end_telling(&mut self, other: NodeId, front: &Front, is_taken: bool)
-        ensures { self.new ≡ with_known (ended_by other front.now is_taken self.old.known) self.old }
+    /// Records the end of the telling that is being taken, which has this front: it was taken, or is
+    /// given up.
+    pub fn end_telling(&mut self, front: &Front, is_taken: bool)
+        ensures { self.new ≡ with_end_of is_taken front.now self.old }
     {
-        self.known.end(other, front, is_taken);
+        if is_taken {
+            self.known.learn(front);
+        }
+        self.backlog.end(is_taken);
+    }
+
+    /// Makes the telling that is being taken wait again, because the journal couldn't take it, unless
+    /// its node sent one meanwhile that counts as many facts of the node. What that node sent is
+    /// tried again after a pause, which doubles each time. Returns the telling that then doesn't
+    /// wait, if there are two.
+    pub fn keep_telling(&mut self, telling: Telling, now: Duration) -> Option<Telling>
+        ensures kept { IsReturned now telling self.old self.new }
+        ensures left { result ≡ not_returned telling self.old.backlog }
+    {
+        self.backlog.keep(telling, now)
+    }
+
+    /// Whether what a node sent waits because the journal couldn't take it.
+    pub fn keeps(&self, node: NodeId) -> bool
+        ensures { result ≡ is_kept node self.now.backlog }
+    {
+        self.backlog.is_kept(node)
+    }
+
+    /// Whether what a node sent waits for its turn: the journal hasn't failed to take it.
+    pub fn queues(&self, node: NodeId) -> bool
+        ensures { result ≡ is_queued node self.now.backlog }
+    {
+        self.backlog.is_queued(node)
+    }
+
+    /// Returns how many tellings of a node were taken, put back or given up.
+    pub fn ended(&self, node: NodeId) -> u64
+        ensures { result ≡ ended_of node self.now.backlog }
+    {
+        self.backlog.ended(node)
     }
 
     /// Records that another node, which asks this one, counts this many facts of this node. A start
@@ -406,9 +448,9 @@ impl MailboxState {
     /// they aren't stored here yet. It is answered once they are, so that a node whose journal is
     /// older learns of each number that it gave.
     pub fn is_owed(&self, from: NodeId, asks: &Front) -> bool
-        ensures { result ≡ is_owed from asks.now self.now.known }
+        ensures { result ≡ is_owed from asks.now self.now.known.front self.now.backlog }
     {
-        self.known.is_owed(from, asks)
+        self.backlog.is_owed(from, asks, &self.known.front)
     }
 
     /// Makes a start wait for all others, however long that takes.
@@ -467,7 +509,7 @@ impl MailboxState {
             Turn::OfDeadlines => self.may_enter(now) && self.asking.is_tick_due(now),
             Turn::OfCount => !self.is_spared(now) && self.known.is_due(now),
             Turn::OfLetters => self.may_enter(now) && !self.letters.is_empty(),
-            Turn::OfTelling => !self.is_spared(now) && self.telling.is_some(),
+            Turn::OfTelling => !self.is_spared(now) && self.backlog.is_due(now),
             Turn::OfDuties => self.may_enter(now) && self.asking.is_stirred,
             Turn::OfChores => self.may_enter(now) && self.sweeping.is_due(now),
             Turn::OfErrand => self.wanted.is_there(self.may_enter(now)),
@@ -507,10 +549,16 @@ impl MailboxState {
         if self.is_spared(now) {
             return self.held_until;
         }
-        if self.known.is_to_count {
-            return earlier_of(self.looks_at(), self.known.counts_at);
+        let next = if self.known.is_to_count {
+            earlier_of(self.looks_at(), self.known.counts_at)
+        } else {
+            self.looks_at()
+        };
+        if self.backlog.retry_at.as_nanos() <= now.as_nanos() {
+            next
+        } else {
+            earlier_of(next, self.backlog.retry_at)
         }
-        self.looks_at()
     }
 
     /// Whether the writer thread must not wait at this moment.
@@ -567,7 +615,7 @@ impl MailboxState {
                 Some(letter) => Task::Enter(letter),
                 None => Task::Rest,
             },
-            Turn::OfTelling => match self.telling.take() {
+            Turn::OfTelling => match self.backlog.next(now) {
                 Some(telling) => Task::Take(telling),
                 None => Task::Rest,
             },
@@ -732,40 +780,5 @@ impl MailboxState {
             self.answer(who, heard, now);
         }
         self.stir(makes_none_due(letter.duty()));
-    }
-
-    /// Whether a telling of another node waits to be taken.
-    pub fn has_telling(&self) -> bool
-        ensures { result ≡ is_some self.now.telling }
-    {
-        self.telling.is_some()
-    }
-
-    /// Puts a telling of another node, unless one already waits. Returns whether it did.
-    pub fn put_telling(&mut self, telling: Telling) -> bool
-        ensures { IsHandedOver telling self.old self.new result }
-    {
-        if self.telling.is_some() {
-            return false;
-        }
-        self.telling = Some(telling);
-        true
-    }
-
-    /// Puts a telling of another node that commands must wait for at a start. Returns whether it
-    /// did: not if nothing in it is new, or if the program is to end.
-    pub fn put_awaited(&mut self, telling: Telling) -> bool
-        ensures { IsAwaited telling self.old self.new result }
-    {
-        let told = telling.front();
-        if self.has_ended
-            || told.nodes() != self.known.front.nodes()
-            || told.below(&self.known.front)
-        {
-            return false;
-        }
-        self.opening.wait_for(&told);
-        self.telling = Some(telling);
-        true
     }
 }

@@ -18,16 +18,8 @@ use wire_pulls::PullError;
 /// more.
 const TAKING_MS: u64 = 200;
 
-/// Hands over what another node sent, if that is more than a front counts. Returns whether it did.
-fn hand_over<R: Wait>(rt: &R, node: &Node, front: &Front, telling: Telling) -> bool {
-    if telling.front().below(front) {
-        return false;
-    }
-    node.mailbox.hand_over(rt, telling)
-}
-
-/// Returns the result of a pull whose telling, with this front, was handed over when `seen`
-/// tellings had ended. The next pull reports that it is taken.
+/// Returns the result of a pull whose telling, with this front, came when `seen` tellings had ended.
+/// The next pull reports that it is taken.
 fn handed<R: Wait + Clock>(rt: &R, node: &Node, other: NodeId, seen: u64, told: &Front) -> Pulled {
     let time = Duration::from_millis(TAKING_MS);
     if node.mailbox.wait_until_taken(rt, other, seen, told, time) {
@@ -56,31 +48,18 @@ fn take_over<R: Wait + Clock>(
     if node.is_lost(rt, &told) {
         return Pulled::Lost;
     }
-    let was_open = !node.mailbox.is_behind(rt);
-    if !node.mailbox.note_heard(rt, other, anew, &telling) {
+    let Some(receipt) = node.receive(rt, anew, telling) else {
         return Pulled::Untaken;
+    };
+    if receipt.is_newer {
+        Pulled::Newer
+    } else if told.count(other) < front.count(other) {
+        Pulled::Older
+    } else if receipt.is_new {
+        handed(rt, node, other, receipt.ended, &told)
+    } else {
+        Pulled::Nothing
     }
-    let is_older = told.count(other) < front.count(other);
-    // This node knows of every fact that it gave until now.
-    let is_newer = told.count(node.me) > node.mailbox.front(rt).count(node.me);
-    if is_newer && was_open {
-        node.doubt(rt);
-    }
-    let seen = node.mailbox.ended(rt, other);
-    let is_new = hand_over(rt, node, front, telling);
-    if !is_new {
-        node.mailbox.drop_telling(rt, other);
-    }
-    if is_newer {
-        return Pulled::Newer;
-    }
-    if is_older {
-        return Pulled::Older;
-    }
-    if is_new {
-        return handed(rt, node, other, seen, &told);
-    }
-    Pulled::Nothing
 }
 
 /// Returns how a pull is counted.
@@ -93,8 +72,8 @@ fn counted(pulled: Pulled) -> PullResult {
     }
 }
 
-/// Pulls from another node once, at once or when there is something new, and hands over what is
-/// new.
+/// Pulls from another node once, at once or when there is something new, and hands over what is new.
+/// What that node sent before is taken first, unless the journal can't take it.
 fn pull_once<R: Wait + Clock + Sockets>(
     rt: &R,
     alloc: Global,
@@ -102,6 +81,7 @@ fn pull_once<R: Wait + Clock + Sockets>(
     other: NodeId,
     waits: bool,
 ) -> Pulled {
+    node.mailbox.wait_for_turn(rt, other);
     let (front, anew) = (node.mailbox.front(rt), node.mailbox.times_anew(rt, other));
     let Ok(stream) = node.site.reach(rt, alloc, &node.signal, other.number()) else {
         return Pulled::Unreached;

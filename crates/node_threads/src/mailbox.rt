@@ -10,31 +10,28 @@ use node_agenda::{Asks, Effects, Fill, MailboxState, OperatorWant, Purged, Sweep
 use node_inbox::{Letter, Telling, Unheard};
 use node_schedule::{Called, Plight, StartedCall};
 use node_sockets::now;
-use state_ids::{Front, LraId, LraStatus, MAX_NODES, NodeId};
+use state_ids::{Front, LAST_NUMBER, LraId, LraStatus, MAX_NODES, NodeId};
 use std::alloc::{AllocError, Global};
 use std::sync::atomic::{AtomicBool, Ordering};
 use std::sync::{Condvar, CondvarTimeouts, Mutex, Wait};
 use std::time::{Clock, Duration};
 use wire_callbacks::Duties;
 
-/// The most nodes that there are.
-const NODES: usize = MAX_NODES as usize;
-
 /// How long the writer thread rests at most.
 const REST_MS: u64 = 250;
 
-/// How long it takes until what the journal couldn't take is tried again: the first time, and at
-/// most.
-const SHORT_KEPT_MS: u64 = 500;
-
-const LONG_KEPT_MS: u64 = 16_000;
-
-/// Whether a kept telling, if there is one, has something beyond a front.
-fn is_beyond(kept: &Option<Telling>, front: &Front) -> bool {
-    match kept {
-        Some(telling) => !telling.front().below(front),
-        None => false,
-    }
+/// What a telling of another node meant when it came.
+#[derive(Clone, Copy)]
+pub(crate) struct Receipt {
+    /// Whether it has more facts of this node than this node knew of. A node knows of every fact that
+    /// it gave.
+    pub(crate) is_newer: bool,
+    /// Whether commands were accepted until then.
+    pub(crate) was_open: bool,
+    /// Whether anything in it is new.
+    pub(crate) is_new: bool,
+    /// How many tellings of the other node had ended.
+    pub(crate) ended: u64,
 }
 
 /// What the lock guards.
@@ -46,117 +43,37 @@ struct Held {
     asks: Asks,
     /// The participants whose last call failed, and where they were called.
     sought: Vec<Sought>,
-    /// For each node, how many of its tellings were taken, or given up.
-    ended: [u64; NODES],
-    /// For each node, a telling that couldn't be taken.
-    kept: [Option<Telling>; NODES],
-    /// Where the search for the next kept telling begins, when it is tried, and how long the next
-    /// pause is.
-    kept_place: usize,
-    kept_at: Duration,
-    kept_pause: Duration,
 }
 
 impl Held {
-    /// Returns how many tellings of another node were taken, or given up.
-    fn ended(&self, other: NodeId) -> u64 {
-        let place = usize::from(other.number().saturating_sub(1));
-        self.ended.get(place).copied().unwrap_or(0)
-    }
-
-    /// Counts one more.
-    fn note_end(&mut self, other: NodeId) {
-        let place = usize::from(other.number().saturating_sub(1));
-        if let Some(ended) = self.ended.get_mut(place) {
-            *ended = ended.saturating_add(1);
+    /// Records that another node answered, and puts what it sent to be taken. If it has more facts of
+    /// this node than this node knows of, and if that casts doubt on this node, nothing of its own is
+    /// stored from here on. Returns what isn't kept, if anything.
+    fn receive(
+        &mut self,
+        me: NodeId,
+        doubts: bool,
+        telling: Telling,
+    ) -> (Receipt, Option<Telling>) {
+        let (from, told) = (telling.from(), telling.front());
+        let was_open = self.state.is_open();
+        let is_newer = told.count(me) > self.state.front().count(me);
+        self.state.note_heard(from, &telling);
+        if is_newer && was_open && doubts {
+            self.state.wait_for_own(LAST_NUMBER);
         }
-    }
-
-    /// Records the end of a telling, which was taken or wasn't.
-    fn end_telling(&mut self, other: NodeId, front: &Front, is_taken: bool) {
-        self.state.end_telling(other, front, is_taken);
-        self.note_end(other);
-    }
-
-    /// Keeps a telling in place of the one that is kept there. Returns the one that is then not
-    /// kept, if any.
-    fn replace_kept(&mut self, place: usize, telling: Telling) -> Option<Telling> {
-        match self.kept.get_mut(place) {
-            Some(kept) => kept.replace(telling),
-            None => Some(telling),
-        }
-    }
-
-    /// Whether the telling that is kept for the node at a place has something beyond a front.
-    fn keeps_more(&self, place: usize, front: &Front) -> bool {
-        match self.kept.get(place) {
-            Some(kept) => is_beyond(kept, front),
-            None => false,
-        }
-    }
-
-    /// Keeps a telling that couldn't be taken, in place of an earlier one of its node, unless that
-    /// has more. So nothing is lost of a node that sent more before its journal went back in time.
-    /// Returns the one that isn't kept, if there are two.
-    fn keep(&mut self, telling: Telling) -> Option<Telling> {
-        let (from, front) = (telling.from(), telling.front());
-        let place = usize::from(from.number().saturating_sub(1));
-        let other = if self.keeps_more(place, &front) {
-            Some(telling)
-        } else {
-            self.replace_kept(place, telling)
+        let ended = self.state.ended(from);
+        let (is_new, left) = match self.state.put_telling(telling) {
+            Ok(left) => (true, left),
+            Err(telling) => (false, Some(telling)),
         };
-        if other.is_some() {
-            self.end_telling(from, &front, false);
-        }
-        other
-    }
-
-    /// Puts off the next try of a kept telling by a pause, which doubles each time.
-    fn pause_kept(&mut self, now: Duration) {
-        self.kept_at = now.saturating_add(self.kept_pause);
-        let longest = Duration::from_millis(LONG_KEPT_MS);
-        self.kept_pause = self.kept_pause.saturating_mul(2).min(longest);
-    }
-
-    /// Whether a telling is kept for the node at a place.
-    fn is_kept(&self, place: usize) -> bool {
-        match self.kept.get(place) {
-            Some(kept) => kept.is_some(),
-            None => false,
-        }
-    }
-
-    /// Takes the next kept telling, node by node in turn.
-    fn next_kept(&mut self) -> Option<Telling> {
-        for step in 0..NODES {
-            let place = self.kept_place.saturating_add(step) % NODES;
-            if self.is_kept(place) {
-                self.kept_place = place.saturating_add(1);
-                return match self.kept.get_mut(place) {
-                    Some(kept) => kept.take(),
-                    None => None,
-                };
-            }
-        }
-        None
-    }
-
-    /// Makes a kept telling be taken next, if no other waits and the pause is over. A telling whose
-    /// facts are here by now is dropped.
-    fn put_kept(&mut self, now: Duration) {
-        if self.state.has_telling() || now < self.kept_at {
-            return;
-        }
-        let Some(telling) = self.next_kept() else {
-            return;
+        let receipt = Receipt {
+            is_newer,
+            was_open,
+            is_new,
+            ended,
         };
-        let (from, front) = (telling.from(), telling.front());
-        if front.below(&self.state.front()) {
-            self.end_telling(from, &front, true);
-        } else {
-            let _is_put = self.state.put_telling(telling);
-        }
+        (receipt, left)
     }
 
     /// Records the result of a call that took this long. Returns what is to be logged of failing
@@ -218,11 +135,6 @@ impl Mailbox {
             state: MailboxState::new(alloc, me, nodes, are_apart, waits_for_all, sweeping),
             asks: Asks::new(nodes),
             sought: Vec::new(alloc),
-            ended: [0; NODES],
-            kept: [None, None, None, None, None, None, None, None],
-            kept_place: 0,
-            kept_at: Duration::ZERO,
-            kept_pause: Duration::from_millis(SHORT_KEPT_MS),
         };
         Mailbox {
             held: Mutex::new(held),
@@ -342,24 +254,30 @@ impl Mailbox {
         self.held.lock(rt).asks.times_anew(other)
     }
 
-    /// Records that another node answered, and what it sent. `seen` is how often it had begun anew
-    /// when it was asked for that. Returns whether that counts: what is from before the node began
-    /// anew doesn't.
-    pub(crate) fn note_heard<R: Wait>(
+    /// Receives what another node sent. `seen` is how often that node had begun anew when it was asked
+    /// for that, and `doubts` says whether it casts doubt on this node if it has more facts of this
+    /// node than this node knows of. Returns `None` if it doesn't count: what is from before the other
+    /// node began anew doesn't.
+    pub(crate) fn receive<R: Wait>(
         &self,
         rt: &R,
-        other: NodeId,
+        me: NodeId,
         seen: u64,
-        telling: &Telling,
-    ) -> bool {
-        let told = telling.front().count(other);
-        let mut held = self.held.lock(rt);
-        if held.asks.is_of_before(other, seen, told) {
-            return false;
-        }
-        held.state.note_heard(other, telling);
+        doubts: bool,
+        telling: Telling,
+    ) -> Option<Receipt> {
+        let from = telling.from();
+        let told = telling.front().count(from);
+        // (The one that isn't kept may be long. It is dropped only after the lock is released.)
+        let (receipt, _left) = {
+            let mut held = self.held.lock(rt);
+            if held.asks.is_of_before(from, seen, told) {
+                return None;
+            }
+            held.receive(me, doubts, telling)
+        };
         self.came.notify_all();
-        true
+        Some(receipt)
     }
 
     /// Records that another node, which asks, claims to have this many facts of this one.
@@ -383,47 +301,38 @@ impl Mailbox {
         self.held.lock(rt).state.wait_for_own(count);
     }
 
-    /// Records that a telling of another node isn't handed over.
-    pub(crate) fn drop_telling<R: Wait>(&self, rt: &R, other: NodeId) {
-        self.held.lock(rt).state.drop_telling(other);
-    }
-
-    /// Records the end of a telling of another node, which has this front: it was taken, or won't
-    /// be.
-    pub fn end_telling<R: Wait>(&self, rt: &R, other: NodeId, front: &Front, is_taken: bool) {
-        let mut held = self.held.lock(rt);
-        held.end_telling(other, front, is_taken);
-        if is_taken {
-            held.kept_pause = Duration::from_millis(SHORT_KEPT_MS);
-        }
+    /// Records the end of the telling that is being taken, which has this front: it was taken, or is
+    /// given up.
+    pub fn end_telling<R: Wait>(&self, rt: &R, front: &Front, is_taken: bool) {
+        self.held.lock(rt).state.end_telling(front, is_taken);
         self.changed.notify_all();
     }
 
-    /// Keeps a telling of another node that couldn't be taken. It is tried again, after a pause if
-    /// the journal failed: the other node may have lost it meanwhile, and is owed it (`is_owed`).
-    pub fn keep_telling<R: Wait + Clock>(&self, rt: &R, telling: Telling, has_failed: bool) {
+    /// Makes the telling that is being taken wait again, because the journal couldn't take it. It is
+    /// tried again after a pause: the other node may have lost it meanwhile, and is owed it
+    /// (`is_owed`).
+    pub fn keep_telling<R: Wait + Clock>(&self, rt: &R, telling: Telling) {
         let moment = now(rt);
-        if has_failed {
-            self.held.lock(rt).pause_kept(moment);
-        }
-        // (The one that isn't kept may be long. It is dropped only after the lock is released.)
-        let _other = self.held.lock(rt).keep(telling);
+        // (The one that doesn't wait may be long. It is dropped only after the lock is released.)
+        let _other = self.held.lock(rt).state.keep_telling(telling, moment);
         self.changed.notify_all();
     }
 
-    /// Whether a telling of another node is kept because the journal couldn't take it.
+    /// Whether a telling of another node waits because the journal couldn't take it.
     pub(crate) fn keeps<R: Wait>(&self, rt: &R, other: NodeId) -> bool {
-        let place = usize::from(other.number().saturating_sub(1));
-        self.held.lock(rt).is_kept(place)
+        self.held.lock(rt).state.keeps(other)
     }
 
-    /// Returns how many tellings of another node were taken, or given up.
-    pub(crate) fn ended<R: Wait>(&self, rt: &R, other: NodeId) -> u64 {
-        self.held.lock(rt).ended(other)
+    /// Waits until nothing that another node sent waits for its turn to be taken, or until the program
+    /// is to end. So a node whose journal is slow isn't sent the same again and again.
+    pub(crate) fn wait_for_turn<R: Wait>(&self, rt: &R, other: NodeId) {
+        let _held = self.changed.wait_while(rt, self.held.lock(rt), |held| {
+            held.state.queues(other) && !held.state.has_ended()
+        });
     }
 
     /// Waits until this node has what a front counts, until one more telling of the other node is
-    /// taken or given up, until this time is over, or until the program is to end. Returns whether
+    /// taken, put back or given up, until this time is over, or until the program is to end. Returns whether
     /// this node has what the front counts.
     pub(crate) fn wait_until_taken<R: Wait + Clock>(
         &self,
@@ -436,7 +345,7 @@ impl Mailbox {
         let (held, _) = self
             .changed
             .wait_timeout_while(rt, self.held.lock(rt), time, |held| {
-                let is_over = held.ended(other) > seen || held.state.has_ended();
+                let is_over = held.state.ended(other) > seen || held.state.has_ended();
                 !is_over && !front.below(&held.state.front())
             });
         front.below(&held.state.front())
@@ -460,6 +369,13 @@ impl Mailbox {
         self.has_opened.swap(false, Ordering::SeqCst)
     }
 
+    /// Returns how many facts of each node this one has at least, and whether it still has to hear
+    /// from the others.
+    pub(crate) fn known<R: Wait>(&self, rt: &R) -> (Front, bool) {
+        let held = self.held.lock(rt);
+        (held.state.front(), !held.state.is_open())
+    }
+
     /// Returns how many facts of each node this one has at least.
     pub fn front<R: Wait>(&self, rt: &R) -> Front {
         self.held.lock(rt).state.front()
@@ -475,7 +391,6 @@ impl Mailbox {
         if held.state.resume_calls(moment) {
             self.due.notify_all();
         }
-        held.put_kept(moment);
         if let Some(rest) = held.state.idle_time(moment) {
             let (waited, _) = self
                 .came
@@ -600,27 +515,14 @@ impl Mailbox {
         self.held.lock(rt).state.note_entered(letter, moment);
     }
 
-    /// Hands over a telling of another node, unless one already waits. Returns whether it did.
+    /// Puts a telling of another node to be taken. Returns whether anything in it is new.
     pub(crate) fn put_telling<R: Wait>(&self, rt: &R, telling: Telling) -> bool {
-        let mut held = self.held.lock(rt);
-        let is_put = held.state.put_telling(telling);
-        if is_put {
+        // (The one that isn't kept may be long. It is dropped only after the lock is released.)
+        let put = self.held.lock(rt).state.put_telling(telling);
+        if put.is_ok() {
             self.came.notify_all();
         }
-        is_put
-    }
-
-    /// Hands over a telling of another node, once no other waits. Returns whether it did: not if
-    /// nothing in it is new by then, or if the program is to end.
-    pub(crate) fn hand_over<R: Wait>(&self, rt: &R, telling: Telling) -> bool {
-        let mut held = self.changed.wait_while(rt, self.held.lock(rt), |held| {
-            held.state.has_telling() && !held.state.has_ended()
-        });
-        let is_put = held.state.put_awaited(telling);
-        if is_put {
-            self.came.notify_all();
-        }
-        is_put
+        put.is_ok()
     }
 
     /// Waits for this long, or until the program is to end. Returns whether it is to end.

@@ -6,10 +6,11 @@ use crate::build::Build;
 use crate::counts::Counts;
 use crate::desk_watch::DeskWatch;
 use crate::followers::{Followers, Wants};
-use crate::mailbox::Mailbox;
+use crate::mailbox::{Mailbox, Receipt};
 use crate::news::News;
 use crate::tally::Tally;
 use node_agenda::{Keep, Sweeping};
+use node_inbox::Telling;
 use node_replication::{PullDecision, Released};
 use node_sockets::{AcceptQueue, Signal, Site, Sockets, StopReason, now};
 use state_ids::{Front, LAST_NUMBER, MAX_NODES, NodeId};
@@ -419,8 +420,7 @@ impl Node {
     /// that were waiting for that. At a start, what others have beyond this node's journal is taken
     /// back first.
     pub fn hear_copies<R: Wait + Clock>(&self, rt: &R, other: NodeId, front: &Front) {
-        let known = self.mailbox.front(rt);
-        let is_behind = self.mailbox.is_behind(rt);
+        let (known, is_behind) = self.mailbox.known(rt);
         let covered = self.followers.hear(rt, other, front, &known, is_behind);
         if !self.followers.wants().any() {
             return;
@@ -433,14 +433,17 @@ impl Node {
         }
     }
 
-    /// If copies are wanted, makes the node store nothing from here on: another node answered with
-    /// facts of this node that it never gave, so two processes may have its number. A node that has
-    /// stored nothing yet takes them back instead: they were on their way when it ended.
-    pub(crate) fn doubt<R: Wait>(&self, rt: &R) {
-        if self.followers.wants().any() && self.has_entered.load(Ordering::SeqCst) {
+    /// Receives what another node sent, which had begun anew `seen` times when it was asked. If it has
+    /// facts of this node that this one never gave, two processes may have its number: if copies are
+    /// wanted, nothing is stored from here on. A node that has stored nothing yet takes them back
+    /// instead: they were on their way when it ended. Returns `None` if what came doesn't count.
+    pub(crate) fn receive<R: Wait>(&self, rt: &R, seen: u64, telling: Telling) -> Option<Receipt> {
+        let doubts = self.followers.wants().any() && self.has_entered.load(Ordering::SeqCst);
+        let receipt = self.mailbox.receive(rt, self.me, seen, doubts, telling)?;
+        if doubts && receipt.is_newer && receipt.was_open {
             self.followers.doubt(rt);
-            self.mailbox.wait_for_own(rt, LAST_NUMBER);
         }
+        Some(receipt)
     }
 
     /// Records that a frame was taken that has facts of this node which its journal lacked. Others

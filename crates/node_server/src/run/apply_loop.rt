@@ -84,17 +84,13 @@ fn spare_of(node: &Node, telling: &Telling) -> Option<Telling> {
 fn keep<R: Wait + Clock>(
     rt: &R,
     node: &Node,
-    from: NodeId,
     front: &Front,
     spare: Option<Telling>,
     refusal: Refusal,
 ) {
-    let has_failed = matches!(refusal, Refusal::JournalFailed | Refusal::Stopped);
     match spare {
-        Some(telling) if refusal != Refusal::NoMemory => {
-            node.mailbox.keep_telling(rt, telling, has_failed);
-        }
-        _ => node.mailbox.end_telling(rt, from, front, false),
+        Some(telling) if refusal != Refusal::NoMemory => node.mailbox.keep_telling(rt, telling),
+        _ => node.mailbox.end_telling(rt, front, false),
     }
 }
 
@@ -114,12 +110,12 @@ fn take<R: Wait + Clock, C: Clerk>(
     match &taken {
         Ok(()) => {
             let is_taken = note_told(node, from, clerk.reply());
-            node.mailbox.end_telling(rt, from, &front, is_taken);
+            node.mailbox.end_telling(rt, &front, is_taken);
             if is_taken && front.count(node.me) > known.count(node.me) {
                 node.note_taken_back(rt, &front);
             }
         }
-        Err(refusal) => keep(rt, node, from, &front, spare, *refusal),
+        Err(refusal) => keep(rt, node, &front, spare, *refusal),
     }
     if node.queue.holding() > 0 {
         node.queue.free(rt);
