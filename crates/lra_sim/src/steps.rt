@@ -69,6 +69,7 @@ impl<R: Runs> Play<R> {
             self.power(place)?;
         }
         self.happen(place)?;
+        self.look_at_answers()?;
         self.look(place)
     }
 
@@ -180,9 +181,20 @@ impl<R: Runs> Play<R> {
         let may_be_older = newest > 0 && self.nodes.len() > 1 && self.are_others_open(me);
         if may_be_older && !self.luck.is_one_in(3) {
             let image = self.luck.place(newest);
-            return self.start(place, image);
+            return self.start_older(place, image);
         }
         self.start(place, newest)
+    }
+
+    /// Starts a node over an older copy or, if copies are wanted, perhaps over an empty disk.
+    fn start_older(&mut self, place: usize, image: usize) -> Result<(), Halt> {
+        if !self.copies.loses_disk() {
+            return self.start(place, image);
+        }
+        if let Some(node) = self.nodes.get_mut(place) {
+            node.lose_disk();
+        }
+        self.start(place, 0)
     }
 
     /// Changes how a host answers, cuts or mends the network, or sets a clock.
@@ -314,7 +326,7 @@ impl<R: Runs> Play<R> {
                 return Ok(false);
             }
         }
-        Ok(true)
+        Ok(self.is_all_out())
     }
 
     fn look_at_all(&mut self) -> Result<(), Halt> {
@@ -332,6 +344,7 @@ impl<R: Runs> Play<R> {
         if round % 4 == 0 {
             self.pull_all()?;
         }
+        self.look_at_answers()?;
         if round < LEAST_ROUNDS {
             return Ok(false);
         }

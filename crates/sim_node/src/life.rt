@@ -2,10 +2,12 @@
 // node_threads/src/following.rt does.
 
 use crate::call_summary::CallSummary;
+use crate::copying::{CallStep, CopyState, Release, ReleasedList, Wants};
 use crate::due::{host_of, is_among, is_same};
 use node_agenda::{Keep, MailboxState, OperatorWant, Sweeping, Task};
 use node_effects::{is_any, noted_by, purged_by};
 use node_inbox::{Letter, Telling, Unheard};
+use node_replication::Standing;
 use node_schedule::StartedCall;
 use sim_env::{DueCall, Halt};
 use sim_runs::Runs;
@@ -75,6 +77,8 @@ struct Start {
 /// The state of a node from a start to the next stop.
 #[derive(Drop)]
 pub struct Life<R: Runs> {
+    alloc: Global,
+    me: NodeId,
     run: Option<R>,
     state: MailboxState,
     /// What the writer thread is about to do.
@@ -89,6 +93,9 @@ pub struct Life<R: Runs> {
     /// aren't stored yet.
     listed: Vec<DueCall>,
     start: Start,
+    /// Whether it was told that its journal is lost, or isn't the newest.
+    is_anew: bool,
+    copying: CopyState,
 }
 
 /// Returns a moment of the monotonic clock.
@@ -159,12 +166,17 @@ impl<R: Runs> Life<R> {
         nodes: u8,
         run: R,
         now: u64,
-        waits_for_all: bool,
+        is_anew: bool,
+        wants: Wants,
     ) -> Life<R> {
         let nodes = nodes.clamp(1, MAX_NODES);
         let are_apart = nodes > 1;
         let sweeping = Sweeping::new(alloc, me, keep, are_apart, true);
+        let own = run.front().count(me);
+        let waits_for_all = is_anew || (wants.any() && own == 0);
         Life {
+            alloc,
+            me,
             run: Some(run),
             state: MailboxState::new(alloc, me, nodes, are_apart, waits_for_all, sweeping),
             task: None,
@@ -174,6 +186,8 @@ impl<R: Runs> Life<R> {
             awaited: Vec::new(alloc),
             listed: Vec::new(alloc),
             start: Start::new(alloc, now, waits_for_all),
+            is_anew,
+            copying: CopyState::new(me, nodes, wants, own, is_anew),
         }
     }
 
@@ -222,18 +236,13 @@ impl<R: Runs> Life<R> {
         !self.state.is_open() || self.state.is_spared(at(now))
     }
 
-    /// Makes a call. Returns no reply if the call is held back or the journal is closed.
+    /// Makes a call. Returns no reply if the journal is closed.
     pub fn make(
         &mut self,
         caller: usize,
         call: Call,
-        enters: bool,
-        now: u64,
         unix: u64,
     ) -> Result<Option<Reply>, Refusal> {
-        if caller > 0 && enters && self.is_held(now) {
-            return Ok(None);
-        }
         let Some(run) = self.run.as_mut() else {
             return Ok(None);
         };
@@ -286,10 +295,15 @@ impl<R: Runs> Life<R> {
 
     /// Returns what it does next, if the journal is open.
     pub fn next_task(&mut self, now: u64) -> Task {
+        self.put_held(now);
         let now = at(now);
         let _opens = self.state.open_if_due(now);
         let _may_call = self.state.resume_calls(now);
-        self.state.next_task(now)
+        let task = self.state.next_task(now);
+        if matches!(&task, Task::Ask) && self.copying.puts_off() {
+            return Task::Rest;
+        }
+        task
     }
 
     /// Ends a letter: the answer is stored, or the letter waits again.
@@ -303,7 +317,11 @@ impl<R: Runs> Life<R> {
     }
 
     /// Ends a telling of another node: it was taken here, or won't be.
-    pub fn end_telling(&mut self, from: NodeId, front: &Front, is_taken: bool) {
+    pub fn end_telling(&mut self, from: NodeId, front: &Front, known: &Front, is_taken: bool) {
+        let own = front.count(self.me);
+        if is_taken && own > known.count(self.me) {
+            self.copying.note_taken_back(own);
+        }
         if !self.awaited.is_empty() {
             let _told = self.awaited.remove(0);
         }
@@ -343,10 +361,35 @@ impl<R: Runs> Life<R> {
         self.state.tick();
     }
 
-    /// Puts the newest list of duties, which has these calls.
-    pub fn put_duties(&mut self, duties: Duties, listed: Vec<DueCall>, now: u64) {
-        self.listed = listed;
-        self.state.put_duties(duties, at(now));
+    /// Puts the newest list of duties, which has these calls and may show `own` facts, once other
+    /// nodes have these.
+    pub fn put_duties(&mut self, duties: Duties, listed: Vec<DueCall>, own: u64, now: u64) {
+        if let Some(released) = self.copying.keep_list(duties, listed, own, now) {
+            self.put_released(released, now);
+        }
+    }
+
+    /// Puts the list that has waited for copies, if it waits no longer.
+    fn put_held(&mut self, now: u64) {
+        let empty = Vec::new(self.alloc);
+        if let Some(released) = self.copying.take_list(now, empty) {
+            self.put_released(released, now);
+        }
+    }
+
+    fn put_released(&mut self, released: ReleasedList, now: u64) {
+        let ReleasedList {
+            duties,
+            listed,
+            asks_again,
+        } = released;
+        if let Some(duties) = duties {
+            self.listed = listed;
+            self.state.put_duties(duties, at(now));
+        }
+        if asks_again {
+            self.state.stir(false);
+        }
     }
 }
 
@@ -438,9 +481,16 @@ impl<R: Runs> Life<R> {
         asked: &Front,
         telling: Telling,
     ) -> Result<(), Halt> {
-        let told = telling.front();
+        let (told, known) = (telling.front(), self.state.front());
+        if self.copying.is_lost(self.is_anew, &told, &known) {
+            return Ok(());
+        }
+        let was_open = self.state.is_open();
         self.state.note_heard(telling.from(), &telling);
         self.start.hear(teller, telling.from(), told.count(me))?;
+        if told.count(me) > known.count(me) && was_open && self.copying.doubt() {
+            self.state.wait_for_own(LAST_NUMBER);
+        }
         if told.below(asked) {
             self.state.drop_telling(telling.from());
             return Ok(());
@@ -469,6 +519,71 @@ impl<R: Runs> Life<R> {
         }
         self.awaited.push(Awaited { from, front })?;
         Ok(())
+    }
+}
+
+/// The copies that other nodes have of its facts.
+impl<R: Runs> Life<R> {
+    /// Whether a worker's call is refused without being made: nothing but a pull is served while
+    /// the disk may be lost, and nothing is stored while the node isn't to store anything.
+    pub fn is_refused(&mut self, asked: &CallSummary, now: u64) -> bool {
+        let is_behind = !self.state.is_open();
+        if !asked.pulls && self.copying.answers_nothing(is_behind) {
+            return true;
+        }
+        asked.enters && (self.is_held(now) || self.copying.refuses())
+    }
+
+    /// Records that a call begins, of a worker or of the writer thread.
+    pub fn begin_step(&mut self, asked: &CallSummary, is_worker: bool) -> CallStep {
+        self.copying.begin(asked.enters, asked.pulls && is_worker)
+    }
+
+    /// Records that a call is over, with this reply. Returns the ticket that the answer of a worker
+    /// waits for, or 0, if there is an answer.
+    pub fn end_step(
+        &mut self,
+        step: CallStep,
+        is_worker: bool,
+        reply: &Reply,
+        now: u64,
+    ) -> Option<u64> {
+        let ticket = self.copying.end(step, reply, now);
+        if !is_worker {
+            return None;
+        }
+        self.copying.promise(step, ticket)
+    }
+
+    /// Records that a call is over that was refused, or wasn't made.
+    pub fn give_up_step(&mut self, step: CallStep, refusal: Option<Refusal>) {
+        self.copying.give_up(step, refusal);
+    }
+
+    /// Records how many facts of this node another one counts when it asks.
+    pub fn hear_copies(&mut self, other: NodeId, front: &Front, now: u64) {
+        let (known, is_behind) = (self.state.front(), !self.state.is_open());
+        self.copying.hear(other, front, &known, is_behind, now);
+    }
+
+    /// Returns the standing of an answer that has waited for a ticket since a moment.
+    pub fn stand(&mut self, ticket: u64, since: u64, now: u64) -> Standing {
+        self.copying.stand(ticket, since, now)
+    }
+
+    /// Takes the release of a list that isn't checked yet.
+    pub fn take_release(&mut self) -> Option<Release> {
+        self.copying.take_release()
+    }
+
+    /// Returns what it does about copies.
+    pub fn copying(&self) -> &CopyState {
+        &self.copying
+    }
+
+    /// Returns the facts that its mailbox knows of.
+    pub fn known(&self) -> Front {
+        self.state.front()
     }
 }
 
