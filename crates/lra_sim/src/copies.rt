@@ -12,9 +12,10 @@ use state_facts::Refusal;
 use state_ids::{Front, MAX_NODES, NodeId};
 use std::alloc::Global;
 
-/// What is added to a seed for the choices about copies, so that a play without copies makes the
-/// same choices as it did before there were any.
-const SALT: u64 = 0x636f_7069_6573;
+/// What is added to a seed for the choices about copies: a play without copies makes the choices
+/// that it would make if there were none. With this number, the first ten seeds want copies in
+/// several manners, and half of them none.
+const SALT: u64 = 256_693;
 
 /// An answer that waits.
 #[derive(Clone, Copy)]
@@ -33,6 +34,9 @@ pub struct Copies {
     wants: Wants,
     /// Whether another call is made in the middle of a call.
     is_between: bool,
+    /// The nodes, by their places, that somebody asked in another node's name since they started,
+    /// as if that node had more facts than there are.
+    misled: Vec<usize>,
     answers: Vec<Answer>,
     /// The most facts of each node that each node ever had on its disk.
     had: Vec<Front>,
@@ -112,6 +116,7 @@ impl Copies {
             luck,
             wants,
             is_between: false,
+            misled: Vec::new(alloc),
             answers: Vec::new(alloc),
             had,
             shown: Front::zero(usize::from(nodes)),
@@ -294,6 +299,28 @@ impl<R: Runs> Play<R> {
     /// Loses the answers of a node that stops.
     pub fn drop_answers(&mut self, place: usize) {
         self.copies.answers.retain(|answer| answer.place != place);
+        self.copies.misled.retain(|misled| *misled != place);
+    }
+
+    /// Lets somebody ask a node in another node's name, in few cases, as if that had more facts of
+    /// the node than there are.
+    pub fn mislead(&mut self, place: usize) -> Result<(), Halt> {
+        let copies = &mut self.copies;
+        if !copies.wants.any() || !copies.luck.is_one_in(100) {
+            return Ok(());
+        }
+        let (more, chosen) = (copies.luck.below(3), copies.luck.place(self.nodes.len()));
+        let (me, other, now) = (self.me(place)?, self.me(chosen)?, self.now);
+        let front = self.front(place)?;
+        let claimed = raised(front, me, front.count(me).saturating_add(1).saturating_add(more));
+        let Some(life) = self.life(place) else {
+            return Ok(());
+        };
+        if chosen != place && life.is_open() {
+            life.hear_copies(other, &claimed, now);
+            self.copies.misled.push(place)?;
+        }
+        Ok(())
     }
 
     /// Looks at each answer that waits.
@@ -338,13 +365,14 @@ impl<R: Runs> Play<R> {
     fn see_no_doubt(&mut self) -> Result<(), Halt> {
         for place in 0..self.nodes.len() {
             let (me, alloc) = (self.me(place)?, self.alloc);
+            let is_misled = self.copies.misled.contains(&place);
             let Some(life) = self.life(place) else {
                 continue;
             };
             if life.copying().is_doubted() {
                 return Err(doubted(alloc, me)?);
             }
-            if life.copying().has_strange() {
+            if life.copying().has_strange() && !is_misled {
                 return Err(strange(alloc, me)?);
             }
         }

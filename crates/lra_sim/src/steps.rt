@@ -69,6 +69,7 @@ impl<R: Runs> Play<R> {
             self.power(place)?;
         }
         self.happen(place)?;
+        self.mislead(place)?;
         self.look_at_answers()?;
         self.look(place)
     }

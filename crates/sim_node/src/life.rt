@@ -173,19 +173,23 @@ impl<R: Runs> Life<R> {
         let are_apart = nodes > 1;
         let sweeping = Sweeping::new(alloc, me, keep, are_apart, true);
         let own = run.front().count(me);
-        let waits_for_all = is_anew || (wants.any() && own == 0);
+        let mut state = MailboxState::new(alloc, me, nodes, are_apart, is_anew, sweeping);
+        let is_empty = wants.any() && own == 0;
+        if is_empty {
+            state.wait_for_all();
+        }
         Life {
             alloc,
             me,
             run: Some(run),
-            state: MailboxState::new(alloc, me, nodes, are_apart, waits_for_all, sweeping),
+            state,
             task: None,
             calls: Vec::new(alloc),
             errand: None,
             tellings: Vec::new(alloc),
             awaited: Vec::new(alloc),
             listed: Vec::new(alloc),
-            start: Start::new(alloc, now, waits_for_all),
+            start: Start::new(alloc, now, is_anew || is_empty),
             is_anew,
             copying: CopyState::new(me, nodes, wants, own, is_anew),
         }
