@@ -84,7 +84,9 @@ fn print_play<P: Print, R: Runs>(
         play.history.facts().len(),
     );
     let (copied, late) = (play.copies.copied, play.copies.late);
-    println!(rt; "seed {seed}, {nodes} nodes: {steps} steps, {now} ms, {facts} facts, {copied} answers copied, {late} late")?;
+    println!(rt;
+        "seed {seed}, {nodes} nodes: {steps} steps, {now} ms, {facts} facts, {copied} answers copied, {late} late"
+    )?;
     Ok(true)
 }
 

@@ -124,7 +124,11 @@ impl<R: Runs> Play<R> {
         if let Some(life) = node.life.as_mut() {
             life.put_tellings()?;
         }
-        if is_back { self.see_back(place) } else { Ok(()) }
+        if is_back {
+            self.see_back(place)
+        } else {
+            Ok(())
+        }
     }
 
     fn do_task(&mut self, place: usize, task: Task) -> Result<(), Halt> {

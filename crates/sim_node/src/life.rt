@@ -241,12 +241,7 @@ impl<R: Runs> Life<R> {
     }
 
     /// Makes a call. Returns no reply if the journal is closed.
-    pub fn make(
-        &mut self,
-        caller: usize,
-        call: Call,
-        unix: u64,
-    ) -> Result<Option<Reply>, Refusal> {
+    pub fn make(&mut self, caller: usize, call: Call, unix: u64) -> Result<Option<Reply>, Refusal> {
         let Some(run) = self.run.as_mut() else {
             return Ok(None);
         };

@@ -225,16 +225,7 @@ impl<R: Runs> SimNode<R> {
     pub fn begin(&mut self, run: R, now: u64) {
         let (me, keep, nodes, wants) = (self.me, self.keep, self.nodes, self.wants);
         let is_anew = self.is_recovering || wants.is_anew;
-        self.life = Some(Life::new(
-            self.alloc,
-            me,
-            keep,
-            nodes,
-            run,
-            now,
-            is_anew,
-            wants,
-        ));
+        self.life = Some(Life::new(self.alloc, me, keep, nodes, run, now, is_anew, wants));
     }
 
     /// Leaves the node with exactly the facts of an older copy, and drops the copies beyond that
