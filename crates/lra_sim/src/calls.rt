@@ -37,6 +37,9 @@ impl<R: Runs> Play<R> {
         if caller > 0 && asked.enters {
             self.see_not_short(place)?;
         }
+        if caller > 0 && !asked.pulls {
+            self.see_mounted(place)?;
+        }
         let step = self.begin_step(place, caller, &asked);
         self.fall_into(place, caller > 0)?;
         self.call_within(place, caller, call, asked, step)

@@ -4,7 +4,7 @@
 mod checks;
 
 use crate::play::Play;
-use sim_env::{Halt, Luck, raised};
+use sim_env::{Doubt, Halt, Luck, raised};
 use sim_node::{CallStep, CallSummary, Wants};
 use sim_runs::Runs;
 use state_book::Reply;
@@ -63,6 +63,12 @@ fn wants_by(luck: &mut Luck, nodes: u8) -> Wants {
     }
 }
 
+fn answers_empty(alloc: Global, me: NodeId) -> Result<Halt, Halt> {
+    Ok(Halt::Found(format!(in alloc;
+        "node {me} answers over an empty disk, though others have facts of it"
+    )?))
+}
+
 fn not_refused(alloc: Global, me: NodeId) -> Result<Halt, Halt> {
     Ok(Halt::Found(format!(in alloc;
         "node {me} stores what a client asks for although copies are strict and others are behind"
@@ -95,6 +101,16 @@ impl Copies {
         self.wants
     }
 
+    /// Whether a node starts now over an empty disk in the place of its own, and nobody says so.
+    fn forgets_disk(&mut self) -> bool {
+        self.wants.any() && !self.wants.is_anew && self.luck.is_one_in(4)
+    }
+
+    /// Whether a node that runs over such a disk stops now.
+    fn notices_disk(&mut self) -> bool {
+        self.luck.is_one_in(3)
+    }
+
     /// Whether a node loses its disk now, given that it starts over an older copy anyway.
     pub fn loses_disk(&mut self) -> bool {
         self.wants.any() && self.luck.is_one_in(2)
@@ -115,6 +131,50 @@ impl Copies {
     fn note_shown(&mut self, me: NodeId, own: u64) {
         let most = self.shown.count(me).max(own);
         self.shown = raised(self.shown, me, most);
+    }
+}
+
+/// Disks that aren't there.
+impl<R: Runs> Play<R> {
+    /// Whether an empty disk is in the place of a node's own.
+    pub fn is_unmounted(&self, place: usize) -> bool {
+        match self.nodes.get(place) {
+            Some(node) => node.is_unmounted(),
+            None => false,
+        }
+    }
+
+    /// Gives a node that is down its own disk back, if an empty one is in its place. Otherwise puts
+    /// an empty one there in some cases, if another node has facts of this one.
+    pub fn change_disk(&mut self, place: usize, may_unmount: bool) -> Result<(), Halt> {
+        let has_facts = may_unmount && self.left_of(self.me(place)?) > 0;
+        let Some(node) = self.nodes.get_mut(place) else {
+            return Ok(());
+        };
+        if node.is_unmounted() {
+            node.mount();
+            return Ok(());
+        }
+        if has_facts && self.copies.forgets_disk() {
+            return node.unmount();
+        }
+        Ok(())
+    }
+
+    /// Stops a node that runs over an empty disk in the place of its own, in some cases.
+    pub fn notice_disk(&mut self, place: usize) -> Result<(), Halt> {
+        if self.copies.notices_disk() {
+            return self.stop(place, Doubt::Nothing);
+        }
+        Ok(())
+    }
+
+    /// Checks that a node that answers isn't over an empty disk in the place of its own.
+    pub fn see_mounted(&self, place: usize) -> Result<(), Halt> {
+        if self.is_unmounted(place) {
+            return Err(answers_empty(self.alloc, self.me(place)?)?);
+        }
+        Ok(())
     }
 }
 
@@ -157,7 +217,7 @@ impl<R: Runs> Play<R> {
     /// stored then if the call itself is one whose reply is compared with the facts once it is over.
     pub fn fall_into(&mut self, place: usize, may_store: bool) -> Result<(), Halt> {
         let copies = &mut self.copies;
-        if copies.is_between || !copies.wants.any() || !copies.luck.is_one_in(4) {
+        if self.is_quiet || copies.is_between || !copies.wants.any() || !copies.luck.is_one_in(4) {
             return Ok(());
         }
         let stores = may_store && !copies.luck.is_one_in(3);

@@ -132,10 +132,11 @@ impl<R: Runs> Play<R> {
         self.go_on(chosen)
     }
 
-    /// Whether a node has started over an older copy and doesn't accept commands yet.
+    /// Whether a node has started over an older copy and doesn't accept commands yet, or an empty
+    /// disk is in the place of its own.
     fn is_anyone_behind(&self) -> bool {
         for node in self.nodes.iter() {
-            if node.is_recovering {
+            if node.is_recovering || node.is_unmounted() {
                 return true;
             }
         }
@@ -159,6 +160,9 @@ impl<R: Runs> Play<R> {
         if !self.is_up(place) {
             return self.start_any(place);
         }
+        if self.is_unmounted(place) {
+            return self.notice_disk(place);
+        }
         if self.is_anyone_behind() || !self.luck.is_one_in(5) {
             return Ok(());
         }
@@ -178,6 +182,8 @@ impl<R: Runs> Play<R> {
 
     /// Starts a node over the newest copy or, if the others know what it sent, over an older one.
     fn start_any(&mut self, place: usize) -> Result<(), Halt> {
+        let is_anyone_behind = self.is_anyone_behind();
+        self.change_disk(place, !is_anyone_behind)?;
         let (me, newest) = (self.me(place)?, self.newest(place));
         let may_be_older = newest > 0 && self.nodes.len() > 1 && self.are_others_open(me);
         if may_be_older && !self.luck.is_one_in(3) {
@@ -245,7 +251,7 @@ impl<R: Runs> Play<R> {
         self.cuts.clear();
         self.hosts = good_hosts(self.alloc)?;
         for place in 0..self.nodes.len() {
-            if self.luck.is_one_in(2) {
+            if self.is_unmounted(place) || self.luck.is_one_in(2) {
                 self.restart(place)?;
             }
         }
@@ -256,6 +262,7 @@ impl<R: Runs> Play<R> {
         if self.is_up(place) {
             self.stop(place, Doubt::Nothing)?;
         }
+        self.change_disk(place, false)?;
         self.start(place, self.newest(place))
     }
 

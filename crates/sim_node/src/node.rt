@@ -12,6 +12,13 @@ use state_ids::{Front, LraStatus, MAX_NODES, NodeId};
 use std::alloc::Global;
 use wire_callbacks::Duties;
 
+/// The disk of a node, and the facts that are on it.
+#[derive(Drop)]
+struct OwnDisk {
+    copies: DiskCopies,
+    known: KnownFacts,
+}
+
 /// A simulated node.
 #[derive(Drop)]
 pub struct SimNode<R: Runs> {
@@ -31,6 +38,8 @@ pub struct SimNode<R: Runs> {
     pub known: KnownFacts,
     /// Whether it has started over an older copy and doesn't accept commands yet.
     pub is_recovering: bool,
+    /// The node's own disk, while an empty one is in its place.
+    unmounted: Option<OwnDisk>,
 }
 
 impl<R: Runs> SimNode<R> {
@@ -57,6 +66,7 @@ impl<R: Runs> SimNode<R> {
             copies,
             known,
             is_recovering: false,
+            unmounted: None,
         })
     }
 
@@ -93,6 +103,30 @@ impl<R: Runs> SimNode<R> {
         };
         let doubted = self.copies.doubted_of(other);
         self.front().count(other).max(heard).max(doubted)
+    }
+
+    /// Whether an empty disk is in the place of the node's own.
+    pub fn is_unmounted(&self) -> bool {
+        self.unmounted.is_some()
+    }
+
+    /// Puts an empty disk in the place of the node's own, which it gets back later.
+    pub fn unmount(&mut self) -> Result<(), Halt> {
+        let copies = DiskCopies::new(self.alloc, self.me, self.nodes)?;
+        let known = KnownFacts::new(self.alloc, self.me, self.nodes)?;
+        self.unmounted = Some(OwnDisk {
+            copies: std::mem::replace(&mut self.copies, copies),
+            known: std::mem::replace(&mut self.known, known),
+        });
+        Ok(())
+    }
+
+    /// Gives the node its own disk back, if an empty one is in its place.
+    pub fn mount(&mut self) {
+        if let Some(OwnDisk { copies, known }) = self.unmounted.take() {
+            self.copies = copies;
+            self.known = known;
+        }
     }
 
     /// Makes the oldest copy of the node's disk empty, as if the disk was lost.

@@ -173,7 +173,7 @@ impl<R: Runs> Play<R> {
 /// Disks that are lost.
 impl<R: Runs> Play<R> {
     /// Returns the most facts of a node that another has on its disk.
-    fn left_of(&self, me: NodeId) -> u64 {
+    pub fn left_of(&self, me: NodeId) -> u64 {
         let mut most = 0u64;
         for node in self.nodes.iter() {
             if node.me != me {
