@@ -67,7 +67,7 @@ impl<R: Runs> Play<R> {
     }
 
     /// Checks that as many other nodes as are wanted had what goes out as copied.
-    fn see_copied(&mut self, place: usize, what: &str, own: u64) -> Result<(), Halt> {
+    pub fn see_copied(&mut self, place: usize, what: &str, own: u64) -> Result<(), Halt> {
         let me = self.me(place)?;
         let found = self.copies.holders(place, me, own);
         if found < u64::from(self.copies.wants.copies) {
