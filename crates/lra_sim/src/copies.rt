@@ -127,6 +127,16 @@ impl Copies {
         found
     }
 
+    /// Whether an answer already waits that shows the same and waits for the same.
+    fn waits_alike(&self, place: usize, ticket: u64, own: u64) -> bool {
+        for answer in self.answers.iter() {
+            if answer.place == place && answer.ticket == ticket && answer.own == own {
+                return true;
+            }
+        }
+        false
+    }
+
     /// Notes that an answer is sent as copied that may show this many facts of a node.
     fn note_shown(&mut self, me: NodeId, own: u64) {
         let most = self.shown.count(me).max(own);
@@ -256,6 +266,9 @@ impl<R: Runs> Play<R> {
         }
         if ticket == 0 {
             return self.see_copied(place, "an answer", own);
+        }
+        if self.copies.waits_alike(place, ticket, own) {
+            return Ok(());
         }
         let since = self.now;
         self.copies.answers.push(Answer {
