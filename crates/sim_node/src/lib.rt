@@ -8,6 +8,7 @@ mod copying;
 mod due;
 mod life;
 mod node;
+mod start;
 
 pub use call_summary::{CallSummary, body_of, cancel, named_in, pull_of_all, stored, taken_by};
 pub use copying::{CallStep, CopyState, Release, Wants};

@@ -1,19 +1,20 @@
-// The state of a node from a start to the next stop. `hear_telling` does what `take_over` of
-// node_threads/src/following.rt does.
+// The state of a node from a start to the next stop.
+
+mod pulls;
 
 use crate::call_summary::CallSummary;
-use crate::copying::{CallStep, CopyState, Release, ReleasedList, Wants};
+use crate::copying::{CopyState, ReleasedList, Wants};
 use crate::due::{host_of, is_among, is_same};
+use crate::start::Start;
 use node_agenda::{Keep, MailboxState, OperatorWant, Sweeping, Task};
 use node_effects::{is_any, noted_by, purged_by};
 use node_inbox::{Letter, Telling, Unheard};
-use node_replication::Standing;
 use node_schedule::StartedCall;
 use sim_env::{DueCall, Halt};
 use sim_runs::Runs;
 use state_book::{Call, Reply, Survey};
 use state_facts::Refusal;
-use state_ids::{Front, LAST_NUMBER, LraId, LraStatus, MAX_NODES, NodeId};
+use state_ids::{Front, LraId, LraStatus, MAX_NODES, NodeId};
 use std::alloc::Global;
 use std::time::Duration;
 use wire_callbacks::Duties;
@@ -24,9 +25,6 @@ const CALLERS: usize = 4;
 
 /// How long operators wait for a call, in milliseconds.
 const ERRAND_MS: u64 = 5_000;
-
-/// How long a node waits for the others before it stores something, in milliseconds.
-const LATE_MS: u64 = 1_000;
 
 /// A participant that is being called.
 #[derive(Drop)]
@@ -47,31 +45,6 @@ struct PlannedCall {
 struct Awaited {
     from: NodeId,
     front: Front,
-}
-
-/// The number of facts of this node that another node claimed to have when it asked, and how often
-/// it has answered since.
-#[derive(Clone, Copy)]
-struct Claim {
-    other: NodeId,
-    count: u64,
-    answers: u64,
-}
-
-/// The number of answers of a node after which nothing that it claimed before is waited for.
-const ANSWERS: u64 = 2;
-
-/// How a life began, and which nodes it has heard from since.
-#[derive(Drop)]
-struct Start {
-    at: u64,
-    waits_for_all: bool,
-    /// The nodes that it has heard from, by their places.
-    heard: Vec<usize>,
-    /// The number of facts of this node that others have sent.
-    told_own: u64,
-    /// What others claim to have beyond that.
-    claims: Vec<Claim>,
 }
 
 /// The state of a node from a start to the next stop.
@@ -101,60 +74,6 @@ pub struct Life<R: Runs> {
 /// Returns a moment of the monotonic clock.
 pub fn at(now: u64) -> Duration {
     Duration::from_millis(now)
-}
-
-impl Start {
-    fn new(alloc: Global, at: u64, waits_for_all: bool) -> Start {
-        Start {
-            at,
-            waits_for_all,
-            heard: Vec::new(alloc),
-            told_own: 0,
-            claims: Vec::new(alloc),
-        }
-    }
-
-    /// Records that a node answered, and how many facts of this node it sent.
-    fn hear(&mut self, place: usize, other: NodeId, told_own: u64) -> Result<(), Halt> {
-        self.told_own = self.told_own.max(told_own);
-        self.heard.push(place)?;
-        for claim in self.claims.iter_mut() {
-            if claim.other == other {
-                claim.answers = claim.answers.saturating_add(1);
-            }
-        }
-        Ok(())
-    }
-
-    /// Records that a node asked and counts this many facts of this node.
-    fn claim(&mut self, other: NodeId, count: u64) -> Result<(), Halt> {
-        self.claims.push(Claim {
-            other,
-            count,
-            answers: 0,
-        })?;
-        Ok(())
-    }
-
-    /// Whether a node with this many facts of its own has all that others claim.
-    fn is_met(&self, own: u64) -> bool {
-        for claim in self.claims.iter() {
-            if claim.answers < ANSWERS && claim.count > own {
-                return false;
-            }
-        }
-        true
-    }
-
-    /// Whether all nodes of a group, except the one at this place, have been heard from.
-    fn has_heard_all(&self, place: usize, count: usize) -> bool {
-        for other in 0..count {
-            if other != place && !self.heard.contains(&other) {
-                return false;
-            }
-        }
-        true
-    }
 }
 
 impl<R: Runs> Life<R> {
@@ -213,9 +132,7 @@ impl<R: Runs> Life<R> {
     /// Whether the node, at this place of a group, may store something: the others have been heard
     /// from or, after a second, none of them has more facts of this node than the node itself.
     pub fn may_enter(&self, own: u64, place: usize, count: usize, now: u64) -> bool {
-        let start = &self.start;
-        let is_late = now >= start.at.saturating_add(LATE_MS) && !start.waits_for_all;
-        start.told_own <= own && start.is_met(own) && (is_late || start.has_heard_all(place, count))
+        self.start.may_enter(own, place, count, now)
     }
 
     /// Takes the run of the journal, which is closed after that.
@@ -419,170 +336,6 @@ impl<R: Runs> Life<R> {
             Some(errand) => Some(errand.call),
             None => None,
         }
-    }
-}
-
-/// Pulls in both directions.
-impl<R: Runs> Life<R> {
-    /// Returns the front from which the node pulls, once the node knows what it has.
-    pub fn counted(&self) -> Option<Front> {
-        if self.state.is_counted() {
-            Some(self.state.front())
-        } else {
-            None
-        }
-    }
-
-    /// Whether a node that asks is owed facts of its own: it sent them here, and they aren't stored
-    /// yet.
-    pub fn is_owed(&self, from: NodeId, asks: &Front) -> bool {
-        self.state.is_owed(from, asks)
-    }
-
-    fn is_awaited(&self, from: NodeId) -> bool {
-        for one in self.awaited.iter() {
-            if one.from == from {
-                return true;
-            }
-        }
-        false
-    }
-
-    fn is_left(&self, from: NodeId) -> bool {
-        for telling in self.tellings.iter() {
-            if telling.from() == from {
-                return true;
-            }
-        }
-        false
-    }
-
-    /// Whether something that a node sent is neither taken nor given up.
-    pub fn waits_for(&self, from: NodeId) -> bool {
-        self.is_awaited(from) || self.is_left(from)
-    }
-
-    /// Learns from another node's pull how many facts of this node it claims to have.
-    pub fn hear_claim(&mut self, me: NodeId, other: NodeId, told: &Front) -> Result<(), Halt> {
-        let (theirs, ours) = (told.count(me), self.state.front().count(me));
-        if theirs > ours && theirs < LAST_NUMBER {
-            self.state.hear_claim(other, theirs);
-            self.start.claim(other, theirs)?;
-        }
-        Ok(())
-    }
-
-    /// Receives what the node at a place sent when it was asked from a front.
-    pub fn hear_telling(
-        &mut self,
-        me: NodeId,
-        teller: usize,
-        asked: &Front,
-        telling: Telling,
-    ) -> Result<(), Halt> {
-        let (told, known) = (telling.front(), self.state.front());
-        if self.copying.is_lost(self.is_anew, &told, &known) {
-            return Ok(());
-        }
-        let was_open = self.state.is_open();
-        self.state.note_heard(telling.from(), &telling);
-        self.start.hear(teller, telling.from(), told.count(me))?;
-        if told.count(me) > known.count(me) && was_open && self.copying.doubt() {
-            self.state.wait_for_own(LAST_NUMBER);
-        }
-        if told.below(asked) {
-            self.state.drop_telling(telling.from());
-            return Ok(());
-        }
-        self.tellings.push(telling)?;
-        Ok(())
-    }
-
-    /// Hands what others sent to the mailbox, as far as there is room.
-    pub fn put_tellings(&mut self) -> Result<(), Halt> {
-        for _telling in 0..self.tellings.len() {
-            if self.tellings.is_empty() || self.state.has_telling() {
-                return Ok(());
-            }
-            let telling = self.tellings.remove(0);
-            self.put_telling(telling)?;
-        }
-        Ok(())
-    }
-
-    fn put_telling(&mut self, telling: Telling) -> Result<(), Halt> {
-        let (front, from) = (telling.front(), telling.from());
-        if !self.state.put_awaited(telling) {
-            self.state.drop_telling(from);
-            return Ok(());
-        }
-        self.awaited.push(Awaited { from, front })?;
-        Ok(())
-    }
-}
-
-/// The copies that other nodes have of its facts.
-impl<R: Runs> Life<R> {
-    /// Whether a worker's call is refused without being made: nothing but a pull is served while
-    /// the disk may be lost, and nothing is stored while the node isn't to store anything.
-    pub fn is_refused(&mut self, asked: &CallSummary, now: u64) -> bool {
-        let is_behind = !self.state.is_open();
-        if !asked.pulls && self.copying.answers_nothing(is_behind) {
-            return true;
-        }
-        asked.enters && (self.is_held(now) || self.copying.refuses())
-    }
-
-    /// Records that a call begins, of a worker or of the writer thread.
-    pub fn begin_step(&mut self, asked: &CallSummary, is_worker: bool) -> CallStep {
-        self.copying.begin(asked.enters, asked.pulls && is_worker)
-    }
-
-    /// Records that a call is over, with this reply. Returns the ticket that the answer of a worker
-    /// waits for, or 0, if there is an answer.
-    pub fn end_step(
-        &mut self,
-        step: CallStep,
-        is_worker: bool,
-        reply: &Reply,
-        now: u64,
-    ) -> Option<u64> {
-        let ticket = self.copying.end(step, reply, now);
-        if !is_worker {
-            return None;
-        }
-        self.copying.promise(step, ticket)
-    }
-
-    /// Records that a call is over that was refused, or wasn't made.
-    pub fn give_up_step(&mut self, step: CallStep, refusal: Option<Refusal>) {
-        self.copying.give_up(step, refusal);
-    }
-
-    /// Records how many facts of this node another one counts when it asks.
-    pub fn hear_copies(&mut self, other: NodeId, front: &Front, now: u64) {
-        let (known, is_behind) = (self.state.front(), !self.state.is_open());
-        self.copying.hear(other, front, &known, is_behind, now);
-    }
-
-    /// Returns the standing of an answer that has waited for a ticket since a moment.
-    pub fn stand(&mut self, ticket: u64, since: u64, now: u64) -> Standing {
-        self.copying.stand(ticket, since, now)
-    }
-
-    /// Takes the release of a list that isn't checked yet.
-    pub fn take_release(&mut self) -> Option<Release> {
-        self.copying.take_release()
-    }
-
-    /// Returns what it does about copies.
-    pub fn copying(&self) -> &CopyState {
-        &self.copying
-    }
-
-    /// Returns the facts that its mailbox knows of.
-    pub fn known(&self) -> Front {
-        self.state.front()
     }
 }
 
