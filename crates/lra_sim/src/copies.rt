@@ -80,9 +80,10 @@ impl Copies {
         let nodes = nodes.clamp(1, MAX_NODES);
         let mut luck = Luck::new(seed.wrapping_add(SALT));
         let wants = wants_by(&mut luck, nodes);
+        let none = Front::zero(usize::from(nodes));
         let mut had = Vec::new(alloc);
         for _node in 0..nodes {
-            had.push(Front::zero(usize::from(nodes)))?;
+            had.push(none)?;
         }
         Ok(Copies {
             luck,
@@ -91,7 +92,7 @@ impl Copies {
             misled: Vec::new(alloc),
             answers: Vec::new(alloc),
             had,
-            shown: Front::zero(usize::from(nodes)),
+            shown: none,
             copied: 0,
             late: 0,
         })

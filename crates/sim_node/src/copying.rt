@@ -95,7 +95,8 @@ impl CopyState {
     /// Makes the state of a node that starts with `own` facts of its own in its journal.
     /// `is_said` says whether it was told that the journal is lost, or isn't the newest.
     pub fn new(me: NodeId, nodes: u8, wants: Wants, own: u64, is_said: bool) -> CopyState {
-        let (nodes, patience) = (nodes.clamp(1, MAX_NODES), at(wants.patience_ms));
+        let nodes = nodes.clamp(1, MAX_NODES);
+        let patience = at(wants.patience_ms);
         let mut followers = FollowersState::new(me, nodes, wants.copies, patience, wants.is_strict);
         followers.note_count(own);
         if wants.any() && own > 0 {

@@ -1,6 +1,6 @@
-// The checks of what goes out: that enough other nodes had what an answer or a list of duties shows,
-// and that it is still there once a disk was lost. What happens to an answer is what `stand` of
-// node_server/src/run/pull_holder.rt says.
+// The checks of what goes out: that enough other nodes had what an answer or a list of duties
+// shows, and that it is still there once a disk was lost. What happens to an answer is what `stand`
+// of node_server/src/run/pull_holder.rt says.
 
 use crate::copies::Answer;
 use crate::play::{Play, nowhere};
@@ -13,7 +13,7 @@ use std::alloc::Global;
 
 fn not_copied(alloc: Global, what: &str, me: NodeId, own: u64, found: u64) -> Result<Halt, Halt> {
     Ok(Halt::Found(format!(in alloc;
-        "{what} of node {me} that may show its {own} facts goes out as copied, but {found} others had them"
+        "{what} of node {me} that may show its {own} facts goes out, and {found} others had them"
     )?))
 }
 
@@ -106,7 +106,7 @@ impl<R: Runs> Play<R> {
             let Some(answer) = self.copies.answers.get(at).copied() else {
                 return Ok(());
             };
-            if self.is_over(answer)? {
+            if self.is_over(answer)? && at < self.copies.answers.len() {
                 let _answer = self.copies.answers.remove(at);
             } else {
                 at = at.saturating_add(1);

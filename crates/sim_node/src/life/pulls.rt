@@ -1,6 +1,6 @@
-// The pulls of a node in both directions, and what other nodes have of its facts. `hear_telling` does
-// what `take_over` of node_threads/src/following.rt does, and `is_refused` what `is_refused` of
-// node_server/src/run/clerk.rt does.
+// The pulls of a node in both directions, and what other nodes have of its facts. `hear_telling`
+// does what `take_over` of node_threads/src/following.rt does, and `is_refused` what `is_refused`
+// of node_server/src/run/clerk.rt does.
 
 use crate::call_summary::CallSummary;
 use crate::copying::{CallStep, CopyState, Release};
