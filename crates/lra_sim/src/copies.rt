@@ -224,8 +224,8 @@ impl<R: Runs> Play<R> {
         }
     }
 
-    /// Lets another worker ask for something in the middle of a call, in some cases. Nothing is
-    /// stored then if the call itself is one whose reply is compared with the facts once it is over.
+    /// Lets another worker ask for something in the middle of a call, in some cases. It may store
+    /// something unless the reply of the call is compared with the facts once the call is over.
     pub fn fall_into(&mut self, place: usize, may_store: bool) -> Result<(), Halt> {
         let copies = &mut self.copies;
         if self.is_quiet || copies.is_between || !copies.wants.any() || !copies.luck.is_one_in(4) {

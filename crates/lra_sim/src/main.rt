@@ -85,7 +85,7 @@ fn print_play<P: Print, R: Runs>(
     );
     let (copied, late) = (play.copies.copied, play.copies.late);
     println!(rt;
-        "seed {seed}, {nodes} nodes: {steps} steps, {now} ms, {facts} facts, {copied} answers copied, {late} late"
+        "seed {seed}, {nodes} nodes: {steps} steps, {now} ms, {facts} facts, {copied} copied, {late} late"
     )?;
     Ok(true)
 }
