@@ -17,14 +17,27 @@ loses and partitions. Nodes stop between any two calls of a disk, and start over
 jump. What a thread of the server does is one step here. Some lines repeat lines of the server: the heads of their files
 say which.
 
+In half of the plays with several nodes, all want copies of their facts (docs/COPIES.md): in some of them strictly, and
+in some each start is told that the journal is lost. In these plays a disk may be lost too, so that its node starts over
+an empty one; or an empty disk may be in the place of a node's own for a while. A call may come into the middle of
+another call of the same node. And somebody may ask in another node's name, as if that had facts which nobody ever
+stored.
+
 After each step it checks these things. The node's pages and records say what its facts say, computed from a plain list
 of all facts that were applied. Statuses only rise, and commands are answered accordingly. The participants that are due
 are those that the facts say, and each call is on the newest list. A tree that is purged showed the same for its
 retention time, also if something in it failed. Nothing is applied before the other nodes have been heard from. No
 number is assigned twice. After each stop everything is there that was answered. At the end all is well for two minutes:
-then nothing that was decided is left to be done, and all nodes are alike. After a start over an older copy a node may
-lose facts that no other node has received. Facts that it sent and that are still on their way are lost then too, and
-also facts that another node couldn't apply, which a server keeps.
+then nothing that was decided is left to be done, nothing waits, and all nodes are alike. After a start over an older
+copy a node may lose facts that no other node has received. Facts that it sent and that are still on their way are lost
+then too, and also facts that another node couldn't apply, which a server keeps.
+
+If copies are wanted, it also checks these. An answer or a list of callbacks goes out as copied only if as many other
+nodes as are wanted had all facts of its node on their disks that it may show. If one disk is lost after that, these
+facts are still there, and the node has them again before it stores anything. No answer waits beyond its patience. If
+copies are wanted strictly, no callback is made too late, and nothing is stored for a client while other nodes are
+behind. A node answers nothing over an empty disk in the place of its own. No node takes another for one with its own
+number.
 
 It exits with 0 if nothing was found, or if each planted fault was. Uses only the standard library."""
 import concurrent.futures

@@ -2,7 +2,7 @@
 
 use crate::play::{Play, nowhere};
 use sim_env::{Doubt, Halt};
-use sim_node::{CallSummary, named_in, stored, taken_by};
+use sim_node::{CallStep, CallSummary, named_in, stored, taken_by};
 use sim_runs::Runs;
 use state_book::{Call, Reply};
 use state_facts::Refusal;
@@ -28,20 +28,65 @@ impl<R: Runs> Play<R> {
     }
 
     /// Makes a call of a thread of a node. Returns no reply if the node isn't up, holds the call
-    /// back, or stops.
+    /// back, or stops. Another call may come between its beginning and the call itself.
     pub fn call(&mut self, place: usize, caller: usize, call: Call) -> Result<Option<Reply>, Halt> {
         let asked = CallSummary::of(&call)?;
+        if self.is_refused(place, caller, &asked) {
+            return Ok(None);
+        }
+        if caller > 0 && asked.enters {
+            self.see_not_short(place)?;
+        }
+        if caller > 0 && !asked.pulls {
+            self.see_mounted(place)?;
+        }
+        let step = self.begin_step(place, caller, &asked);
+        self.fall_into(place, caller > 0)?;
+        self.call_within(place, caller, call, asked, step)
+    }
+
+    /// Makes a call that has begun.
+    fn call_within(
+        &mut self,
+        place: usize,
+        caller: usize,
+        call: Call,
+        asked: CallSummary,
+        step: CallStep,
+    ) -> Result<Option<Reply>, Halt> {
         match self.make(place, caller, call, &asked) {
             Ok(Some(reply)) => {
-                self.enter_reply(place, asked, &reply)?;
+                self.end_call_of(place, caller, asked, step, &reply)?;
                 Ok(Some(reply))
             }
-            Ok(None) => Ok(None),
+            Ok(None) => {
+                self.give_up_step(place, step, None);
+                Ok(None)
+            }
             Err(refusal) => {
+                self.give_up_step(place, step, Some(refusal));
                 self.refuse(place, asked, refusal)?;
                 Ok(None)
             }
         }
+    }
+
+    /// Records that a call was made and is over. Another call may come in between.
+    fn end_call_of(
+        &mut self,
+        place: usize,
+        caller: usize,
+        asked: CallSummary,
+        step: CallStep,
+        reply: &Reply,
+    ) -> Result<(), Halt> {
+        self.enter_reply(place, asked, reply)?;
+        let own = self.front(place)?.count(self.me(place)?);
+        match step {
+            CallStep::Enters | CallStep::Asks(_) => self.fall_into(place, caller > 0)?,
+            CallStep::Other => {}
+        }
+        self.end_step(place, caller, step, own, reply)
     }
 
     /// Handles the refusal of a call: the journal failed, or the run is full. It may have no other
@@ -71,12 +116,21 @@ impl<R: Runs> Play<R> {
             let front = self.front(place)?.join(&taken);
             return self.grow(place, front);
         }
+        self.see_told(place, reply)?;
         self.see_entered(place, &asked, reply)?;
         let named = named_in(&asked);
         if let Some(body) = stored(asked, reply) {
             self.add(place, body)?;
         }
         self.see_reply(place, named, reply)
+    }
+
+    /// Checks that a node sends all that it has.
+    fn see_told(&self, place: usize, reply: &Reply) -> Result<(), Halt> {
+        match (self.nodes.get(place), reply) {
+            (Some(node), Reply::Gave(delta)) => node.see_told(delta),
+            _ => Ok(()),
+        }
     }
 
     /// Checks that what a call stored was allowed to be stored.

@@ -6,6 +6,7 @@
 mod asking;
 mod calls;
 mod checks;
+mod copies;
 mod opening;
 mod play;
 mod pulls;
@@ -82,7 +83,10 @@ fn print_play<P: Print, R: Runs>(
         play.now,
         play.history.facts().len(),
     );
-    println!(rt; "seed {seed}, {nodes} nodes: {steps} steps, {now} ms, {facts} facts")?;
+    let (copied, late) = (play.copies.copied, play.copies.late);
+    println!(rt;
+        "seed {seed}, {nodes} nodes: {steps} steps, {now} ms, {facts} facts, {copied} copied, {late} late"
+    )?;
     Ok(true)
 }
 

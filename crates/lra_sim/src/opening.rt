@@ -89,11 +89,13 @@ impl<R: Runs> Play<R> {
         me: NodeId,
         front: Front,
     ) -> Result<(), Halt> {
+        self.see_left(me, front.count(me))?;
         self.lose(place, me, front.count(me))?;
-        match self.nodes.get_mut(place) {
-            Some(node) => node.fall_back(&self.history, copy, front, self.now),
-            None => Err(nowhere()),
-        }
+        let Some(node) = self.nodes.get_mut(place) else {
+            return Err(nowhere());
+        };
+        node.fall_back(&self.history, copy, front, self.now)?;
+        self.note_left_besides(me)
     }
 
     fn begin(&mut self, place: usize, run: R) -> Result<(), Halt> {
@@ -120,6 +122,7 @@ impl<R: Runs> Play<R> {
     fn lose(&mut self, place: usize, me: NodeId, count: u64) -> Result<(), Halt> {
         self.pulls.retain(|pull| pull.teller != place);
         let known = self.known_of(me);
+        self.forget_had(me, count.max(known));
         self.history.forget(me, count.max(known))
     }
 
@@ -141,6 +144,7 @@ impl<R: Runs> Play<R> {
         }
         let (me, own) = (node.me, node.known.own());
         let known = self.known_of(me);
+        self.forget_had(me, own.max(known));
         self.history.forget(me, own.max(known))
     }
 
@@ -178,6 +182,7 @@ impl<R: Runs> Play<R> {
 
     fn end_life(&mut self, place: usize) {
         self.pulls.retain(|pull| pull.asker != place);
+        self.drop_answers(place);
         if let Some(node) = self.nodes.get_mut(place) {
             node.life = None;
         }

@@ -1,8 +1,9 @@
 // One to eight nodes in one thread, under a clock, a network, disks and participants that a seed decides.
 
+use crate::copies::Copies;
 use node_agenda::Keep;
 use sim_env::{Halt, History, Luck, Manner, Pull};
-use sim_node::{HOSTS, Life, SimNode};
+use sim_node::{HOSTS, Life, SimNode, Wants};
 use sim_runs::Runs;
 use state_facts::Body;
 use state_ids::{Front, LraId, MAX_NODES, NodeId};
@@ -27,6 +28,7 @@ pub struct Play<R: Runs> {
     /// Whether nothing fails any more.
     pub is_quiet: bool,
     pub steps: u64,
+    pub copies: Copies,
     told: VecDeque<String>,
     most: usize,
 }
@@ -70,17 +72,23 @@ fn new_node<R: Runs>(
     luck: &mut Luck,
     number: u8,
     nodes: u8,
+    wants: Wants,
 ) -> Result<SimNode<R>, Halt> {
     let ended = time_by(luck);
     let failed = time_by(luck);
     let skew = luck.below(20_000);
-    SimNode::new(alloc, number, nodes, Keep { ended, failed }, skew)
+    SimNode::new(alloc, number, nodes, Keep { ended, failed }, wants, skew)
 }
 
-fn new_nodes<R: Runs>(alloc: Global, luck: &mut Luck, nodes: u8) -> Result<Vec<SimNode<R>>, Halt> {
+fn new_nodes<R: Runs>(
+    alloc: Global,
+    luck: &mut Luck,
+    nodes: u8,
+    wants: Wants,
+) -> Result<Vec<SimNode<R>>, Halt> {
     let mut all = Vec::new(alloc);
     for number in 1..=nodes {
-        all.push(new_node(alloc, luck, number, nodes)?)?;
+        all.push(new_node(alloc, luck, number, nodes, wants)?)?;
     }
     Ok(all)
 }
@@ -97,7 +105,8 @@ pub fn nowhere() -> Halt {
 impl<R: Runs> Play<R> {
     pub fn new(alloc: Global, seed: u64, nodes: u8, most: usize) -> Result<Play<R>, Halt> {
         let mut luck = Luck::new(seed);
-        let all = new_nodes(alloc, &mut luck, nodes)?;
+        let copies = Copies::new(alloc, seed, nodes)?;
+        let all = new_nodes(alloc, &mut luck, nodes, copies.wants())?;
         let hosts = hosts_by(alloc, &mut luck)?;
         Ok(Play {
             alloc,
@@ -110,6 +119,7 @@ impl<R: Runs> Play<R> {
             hosts,
             is_quiet: false,
             steps: 0,
+            copies,
             told: VecDeque::new(alloc),
             most,
         })
@@ -179,7 +189,8 @@ impl<R: Runs> Play<R> {
         let Some(node) = self.nodes.get_mut(place) else {
             return Err(nowhere());
         };
-        node.grow(&self.history, front, self.now)
+        node.grow(&self.history, front, self.now)?;
+        self.note_had(place)
     }
 
     /// Adds a fact that a node stored.

@@ -95,7 +95,8 @@ impl<R: Runs> Play<R> {
             return Ok(());
         }
         match stage {
-            PullStage::Asked => self.serve(asker, teller, front),
+            PullStage::Asked => self.hear_pull(asker, teller, front),
+            PullStage::Held => self.serve(asker, teller, front),
             PullStage::Answered(bytes) => self.hear_answer(asker, teller, front, bytes),
         }
     }
@@ -114,6 +115,18 @@ impl<R: Runs> Play<R> {
         Ok(is_owed)
     }
 
+    /// Lets the node that is asked hear a pull and what its asker counts, and serves it.
+    fn hear_pull(&mut self, asker: usize, teller: usize, front: Front) -> Result<(), Halt> {
+        let body = pull_body(self.alloc, &front)?;
+        let told = front_told(self.count(), body.as_slice())?;
+        let (other, now) = (self.me(asker)?, self.now);
+        if let Some(life) = self.life(teller) {
+            life.hear_copies(other, &told, now);
+        }
+        self.hear_claim(teller, asker, &told)?;
+        self.serve(asker, teller, front)
+    }
+
     /// Lets a worker of the node that is asked serve a pull, unless the pull has to wait.
     fn serve(&mut self, asker: usize, teller: usize, front: Front) -> Result<(), Halt> {
         if self.is_owed(asker, teller, &front)? {
@@ -121,27 +134,16 @@ impl<R: Runs> Play<R> {
                 asker,
                 teller,
                 front,
-                stage: PullStage::Asked,
+                stage: PullStage::Held,
             })?;
             return Ok(());
         }
         let body = pull_body(self.alloc, &front)?;
-        let told = front_told(self.count(), body.as_slice())?;
         let reply = self.call(teller, SERVES, Call::Pull(Bytes::new(body)))?;
         let Some(Reply::Gave(delta)) = &reply else {
             return Ok(());
         };
-        self.see_told(teller, delta)?;
-        self.hear_claim(teller, asker, &told)?;
         self.answer(asker, teller, front, delta)
-    }
-
-    /// Checks that a node sends all that it has.
-    fn see_told(&self, teller: usize, delta: &Delta) -> Result<(), Halt> {
-        match self.nodes.get(teller) {
-            Some(node) => node.see_told(delta),
-            None => Err(nowhere()),
-        }
     }
 
     fn hear_claim(&mut self, teller: usize, asker: usize, told: &Front) -> Result<(), Halt> {

@@ -69,6 +69,8 @@ impl<R: Runs> Play<R> {
             self.power(place)?;
         }
         self.happen(place)?;
+        self.mislead(place)?;
+        self.look_at_answers()?;
         self.look(place)
     }
 
@@ -130,10 +132,11 @@ impl<R: Runs> Play<R> {
         self.go_on(chosen)
     }
 
-    /// Whether a node has started over an older copy and doesn't accept commands yet.
+    /// Whether a node has started over an older copy and doesn't accept commands yet, or an empty
+    /// disk is in the place of its own.
     fn is_anyone_behind(&self) -> bool {
         for node in self.nodes.iter() {
-            if node.is_recovering {
+            if node.is_recovering || node.is_unmounted() {
                 return true;
             }
         }
@@ -157,6 +160,9 @@ impl<R: Runs> Play<R> {
         if !self.is_up(place) {
             return self.start_any(place);
         }
+        if self.is_unmounted(place) {
+            return self.notice_disk(place);
+        }
         if self.is_anyone_behind() || !self.luck.is_one_in(5) {
             return Ok(());
         }
@@ -176,13 +182,26 @@ impl<R: Runs> Play<R> {
 
     /// Starts a node over the newest copy or, if the others know what it sent, over an older one.
     fn start_any(&mut self, place: usize) -> Result<(), Halt> {
+        let is_anyone_behind = self.is_anyone_behind();
+        self.change_disk(place, !is_anyone_behind)?;
         let (me, newest) = (self.me(place)?, self.newest(place));
         let may_be_older = newest > 0 && self.nodes.len() > 1 && self.are_others_open(me);
         if may_be_older && !self.luck.is_one_in(3) {
             let image = self.luck.place(newest);
-            return self.start(place, image);
+            return self.start_older(place, image);
         }
         self.start(place, newest)
+    }
+
+    /// Starts a node over an older copy or, if copies are wanted, perhaps over an empty disk.
+    fn start_older(&mut self, place: usize, image: usize) -> Result<(), Halt> {
+        if !self.copies.loses_disk() {
+            return self.start(place, image);
+        }
+        if let Some(node) = self.nodes.get_mut(place) {
+            node.lose_disk();
+        }
+        self.start(place, 0)
     }
 
     /// Changes how a host answers, cuts or mends the network, or sets a clock.
@@ -232,7 +251,7 @@ impl<R: Runs> Play<R> {
         self.cuts.clear();
         self.hosts = good_hosts(self.alloc)?;
         for place in 0..self.nodes.len() {
-            if self.luck.is_one_in(2) {
+            if self.is_unmounted(place) || self.luck.is_one_in(2) {
                 self.restart(place)?;
             }
         }
@@ -243,6 +262,7 @@ impl<R: Runs> Play<R> {
         if self.is_up(place) {
             self.stop(place, Doubt::Nothing)?;
         }
+        self.change_disk(place, false)?;
         self.start(place, self.newest(place))
     }
 
@@ -314,7 +334,7 @@ impl<R: Runs> Play<R> {
                 return Ok(false);
             }
         }
-        Ok(true)
+        Ok(self.is_all_out())
     }
 
     fn look_at_all(&mut self) -> Result<(), Halt> {
@@ -332,6 +352,7 @@ impl<R: Runs> Play<R> {
         if round % 4 == 0 {
             self.pull_all()?;
         }
+        self.look_at_answers()?;
         if round < LEAST_ROUNDS {
             return Ok(false);
         }

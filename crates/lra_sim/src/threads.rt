@@ -11,7 +11,7 @@ use sim_env::{DueCall, Halt, Manner};
 use sim_node::{due_call, host_of, pull_of_all};
 use sim_runs::Runs;
 use state_book::{Call, Reply};
-use state_ids::{LraId, NodeId};
+use state_ids::{Front, LraId, NodeId};
 use std::alloc::Global;
 use wire_callbacks::{Duties, NetCaller};
 use wire_http::{OverRead, OverWrite};
@@ -78,6 +78,7 @@ impl<R: Runs> Play<R> {
         let Some((next, is_open)) = self.next_task(place) else {
             return Ok(false);
         };
+        self.see_release(place)?;
         let is_any = self.do_or_wait(place, next, waits)?;
         self.settle_tellings(place, is_open)?;
         Ok(is_any)
@@ -116,12 +117,17 @@ impl<R: Runs> Play<R> {
         let Some(node) = self.nodes.get_mut(place) else {
             return Ok(());
         };
-        if is_open {
+        let is_back = is_open && node.is_recovering;
+        if is_back {
             node.is_recovering = false;
         }
-        match node.life.as_mut() {
-            Some(life) => life.put_tellings(),
-            None => Ok(()),
+        if let Some(life) = node.life.as_mut() {
+            life.put_tellings()?;
+        }
+        if is_back {
+            self.see_back(place)
+        } else {
+            Ok(())
         }
     }
 
@@ -181,13 +187,14 @@ impl<R: Runs> Play<R> {
     fn take(&mut self, place: usize, telling: Telling) -> Result<(), Halt> {
         let (me, front, from) = (self.me(place)?, telling.front(), telling.from());
         self.tell(texts::of_taking(self.alloc, me, from, &front)?)?;
+        let known = self.known(place)?;
         let reply = self.call(place, ENTERS, Call::Take(telling.into_delta()))?;
         if reply.is_some() && !is_took(&reply) {
             return Err(untaken(self.alloc, me, from)?);
         }
         let is_taken = reply.is_some();
         if let Some(life) = self.life(place) {
-            life.end_telling(from, &front, is_taken);
+            life.end_telling(from, &front, &known, is_taken);
         }
         if is_taken || self.luck.is_one_in(2) {
             return Ok(());
@@ -217,9 +224,19 @@ impl<R: Runs> Play<R> {
     }
 
     fn put_duties(&mut self, place: usize, duties: Duties) -> Result<(), Halt> {
-        match self.nodes.get_mut(place) {
-            Some(node) => node.put_duties(duties, self.now),
-            None => Err(nowhere()),
+        let Some(node) = self.nodes.get_mut(place) else {
+            return Err(nowhere());
+        };
+        node.put_duties(duties, self.now)?;
+        self.see_release(place)
+    }
+
+    /// Returns the facts that a node's mailbox knows of.
+    fn known(&mut self, place: usize) -> Result<Front, Halt> {
+        let front = self.front(place)?;
+        match self.life(place) {
+            Some(life) => Ok(life.known()),
+            None => Ok(front),
         }
     }
 

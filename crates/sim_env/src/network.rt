@@ -11,6 +11,8 @@ use wire_callbacks::Kind;
 pub enum PullStage {
     /// The request is in transit.
     Asked,
+    /// The request has come, and waits.
+    Held,
     /// The response is in transit, with these bytes.
     Answered(Vec<u8>),
 }

@@ -126,6 +126,16 @@ impl DiskCopies {
         Ok(())
     }
 
+    /// Makes the oldest copy empty, unless it is the only one.
+    pub fn empty_oldest(&mut self, alloc: Global, nodes: u8) {
+        if self.images.len() < 2 {
+            return;
+        }
+        if let Some(oldest) = self.images.get_mut(0) {
+            *oldest = Image::empty(alloc, nodes);
+        }
+    }
+
     /// Drops the copies beyond a place.
     pub fn drop_beyond(&mut self, place: usize) {
         self.images.truncate(place.saturating_add(1));

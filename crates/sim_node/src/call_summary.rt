@@ -15,6 +15,8 @@ pub struct CallSummary {
     /// The front to which the frame leads that the call takes.
     pub taken: Option<Front>,
     pub is_sweep: bool,
+    /// Whether it asks for a frame.
+    pub pulls: bool,
     pub enters: bool,
     pub completes: bool,
     pub freed: Option<LraId>,
@@ -46,6 +48,7 @@ impl CallSummary {
             command: command_in(call)?,
             taken: taken_in(call),
             is_sweep: is_sweep(call),
+            pulls: matches!(call, Call::Pull(_)),
             enters: enters(call),
             completes: is_completion(call),
             freed: freed_by(call),

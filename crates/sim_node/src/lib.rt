@@ -4,11 +4,14 @@
 
 mod call_summary;
 mod checks;
+mod copying;
 mod due;
 mod life;
 mod node;
+mod start;
 
 pub use call_summary::{CallSummary, body_of, cancel, named_in, pull_of_all, stored, taken_by};
+pub use copying::{CallStep, CopyState, Release, Wants};
 pub use due::{HOSTS, due_call, host_of};
 pub use life::Life;
 pub use node::SimNode;

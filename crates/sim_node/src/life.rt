@@ -1,8 +1,11 @@
-// The state of a node from a start to the next stop. `hear_telling` does what `take_over` of
-// node_threads/src/following.rt does.
+// The state of a node from a start to the next stop.
+
+mod pulls;
 
 use crate::call_summary::CallSummary;
+use crate::copying::{CopyState, ReleasedList, Wants};
 use crate::due::{host_of, is_among, is_same};
+use crate::start::Start;
 use node_agenda::{Keep, MailboxState, OperatorWant, Sweeping, Task};
 use node_effects::{is_any, noted_by, purged_by};
 use node_inbox::{Letter, Telling, Unheard};
@@ -11,7 +14,7 @@ use sim_env::{DueCall, Halt};
 use sim_runs::Runs;
 use state_book::{Call, Reply, Survey};
 use state_facts::Refusal;
-use state_ids::{Front, LAST_NUMBER, LraId, LraStatus, MAX_NODES, NodeId};
+use state_ids::{Front, LraId, LraStatus, MAX_NODES, NodeId};
 use std::alloc::Global;
 use std::time::Duration;
 use wire_callbacks::Duties;
@@ -22,9 +25,6 @@ const CALLERS: usize = 4;
 
 /// How long operators wait for a call, in milliseconds.
 const ERRAND_MS: u64 = 5_000;
-
-/// How long a node waits for the others before it stores something, in milliseconds.
-const LATE_MS: u64 = 1_000;
 
 /// A participant that is being called.
 #[derive(Drop)]
@@ -47,34 +47,11 @@ struct Awaited {
     front: Front,
 }
 
-/// The number of facts of this node that another node claimed to have when it asked, and how often
-/// it has answered since.
-#[derive(Clone, Copy)]
-struct Claim {
-    other: NodeId,
-    count: u64,
-    answers: u64,
-}
-
-/// The number of answers of a node after which nothing that it claimed before is waited for.
-const ANSWERS: u64 = 2;
-
-/// How a life began, and which nodes it has heard from since.
-#[derive(Drop)]
-struct Start {
-    at: u64,
-    waits_for_all: bool,
-    /// The nodes that it has heard from, by their places.
-    heard: Vec<usize>,
-    /// The number of facts of this node that others have sent.
-    told_own: u64,
-    /// What others claim to have beyond that.
-    claims: Vec<Claim>,
-}
-
 /// The state of a node from a start to the next stop.
 #[derive(Drop)]
 pub struct Life<R: Runs> {
+    alloc: Global,
+    me: NodeId,
     run: Option<R>,
     state: MailboxState,
     /// What the writer thread is about to do.
@@ -89,65 +66,14 @@ pub struct Life<R: Runs> {
     /// aren't stored yet.
     listed: Vec<DueCall>,
     start: Start,
+    /// Whether it was told that its journal is lost, or isn't the newest.
+    is_anew: bool,
+    copying: CopyState,
 }
 
 /// Returns a moment of the monotonic clock.
 pub fn at(now: u64) -> Duration {
     Duration::from_millis(now)
-}
-
-impl Start {
-    fn new(alloc: Global, at: u64, waits_for_all: bool) -> Start {
-        Start {
-            at,
-            waits_for_all,
-            heard: Vec::new(alloc),
-            told_own: 0,
-            claims: Vec::new(alloc),
-        }
-    }
-
-    /// Records that a node answered, and how many facts of this node it sent.
-    fn hear(&mut self, place: usize, other: NodeId, told_own: u64) -> Result<(), Halt> {
-        self.told_own = self.told_own.max(told_own);
-        self.heard.push(place)?;
-        for claim in self.claims.iter_mut() {
-            if claim.other == other {
-                claim.answers = claim.answers.saturating_add(1);
-            }
-        }
-        Ok(())
-    }
-
-    /// Records that a node asked and counts this many facts of this node.
-    fn claim(&mut self, other: NodeId, count: u64) -> Result<(), Halt> {
-        self.claims.push(Claim {
-            other,
-            count,
-            answers: 0,
-        })?;
-        Ok(())
-    }
-
-    /// Whether a node with this many facts of its own has all that others claim.
-    fn is_met(&self, own: u64) -> bool {
-        for claim in self.claims.iter() {
-            if claim.answers < ANSWERS && claim.count > own {
-                return false;
-            }
-        }
-        true
-    }
-
-    /// Whether all nodes of a group, except the one at this place, have been heard from.
-    fn has_heard_all(&self, place: usize, count: usize) -> bool {
-        for other in 0..count {
-            if other != place && !self.heard.contains(&other) {
-                return false;
-            }
-        }
-        true
-    }
 }
 
 impl<R: Runs> Life<R> {
@@ -159,21 +85,32 @@ impl<R: Runs> Life<R> {
         nodes: u8,
         run: R,
         now: u64,
-        waits_for_all: bool,
+        is_anew: bool,
+        wants: Wants,
     ) -> Life<R> {
         let nodes = nodes.clamp(1, MAX_NODES);
         let are_apart = nodes > 1;
         let sweeping = Sweeping::new(alloc, me, keep, are_apart, true);
+        let own = run.front().count(me);
+        let mut state = MailboxState::new(alloc, me, nodes, are_apart, is_anew, sweeping);
+        let is_empty = wants.any() && own == 0;
+        if is_empty {
+            state.wait_for_all();
+        }
         Life {
+            alloc,
+            me,
             run: Some(run),
-            state: MailboxState::new(alloc, me, nodes, are_apart, waits_for_all, sweeping),
+            state,
             task: None,
             calls: Vec::new(alloc),
             errand: None,
             tellings: Vec::new(alloc),
             awaited: Vec::new(alloc),
             listed: Vec::new(alloc),
-            start: Start::new(alloc, now, waits_for_all),
+            start: Start::new(alloc, now, is_anew || is_empty),
+            is_anew,
+            copying: CopyState::new(me, nodes, wants, own, is_anew),
         }
     }
 
@@ -195,9 +132,7 @@ impl<R: Runs> Life<R> {
     /// Whether the node, at this place of a group, may store something: the others have been heard
     /// from or, after a second, none of them has more facts of this node than the node itself.
     pub fn may_enter(&self, own: u64, place: usize, count: usize, now: u64) -> bool {
-        let start = &self.start;
-        let is_late = now >= start.at.saturating_add(LATE_MS) && !start.waits_for_all;
-        start.told_own <= own && start.is_met(own) && (is_late || start.has_heard_all(place, count))
+        self.start.may_enter(own, place, count, now)
     }
 
     /// Takes the run of the journal, which is closed after that.
@@ -222,18 +157,8 @@ impl<R: Runs> Life<R> {
         !self.state.is_open() || self.state.is_spared(at(now))
     }
 
-    /// Makes a call. Returns no reply if the call is held back or the journal is closed.
-    pub fn make(
-        &mut self,
-        caller: usize,
-        call: Call,
-        enters: bool,
-        now: u64,
-        unix: u64,
-    ) -> Result<Option<Reply>, Refusal> {
-        if caller > 0 && enters && self.is_held(now) {
-            return Ok(None);
-        }
+    /// Makes a call. Returns no reply if the journal is closed.
+    pub fn make(&mut self, caller: usize, call: Call, unix: u64) -> Result<Option<Reply>, Refusal> {
         let Some(run) = self.run.as_mut() else {
             return Ok(None);
         };
@@ -286,10 +211,15 @@ impl<R: Runs> Life<R> {
 
     /// Returns what it does next, if the journal is open.
     pub fn next_task(&mut self, now: u64) -> Task {
+        self.put_held(now);
         let now = at(now);
         let _opens = self.state.open_if_due(now);
         let _may_call = self.state.resume_calls(now);
-        self.state.next_task(now)
+        let task = self.state.next_task(now);
+        if matches!(&task, Task::Ask) && self.copying.puts_off() {
+            return Task::Rest;
+        }
+        task
     }
 
     /// Ends a letter: the answer is stored, or the letter waits again.
@@ -303,7 +233,11 @@ impl<R: Runs> Life<R> {
     }
 
     /// Ends a telling of another node: it was taken here, or won't be.
-    pub fn end_telling(&mut self, from: NodeId, front: &Front, is_taken: bool) {
+    pub fn end_telling(&mut self, from: NodeId, front: &Front, known: &Front, is_taken: bool) {
+        let own = front.count(self.me);
+        if is_taken && own > known.count(self.me) {
+            self.copying.note_taken_back(own);
+        }
         if !self.awaited.is_empty() {
             let _told = self.awaited.remove(0);
         }
@@ -343,10 +277,35 @@ impl<R: Runs> Life<R> {
         self.state.tick();
     }
 
-    /// Puts the newest list of duties, which has these calls.
-    pub fn put_duties(&mut self, duties: Duties, listed: Vec<DueCall>, now: u64) {
-        self.listed = listed;
-        self.state.put_duties(duties, at(now));
+    /// Puts the newest list of duties, which has these calls and may show `own` facts, once other
+    /// nodes have these.
+    pub fn put_duties(&mut self, duties: Duties, listed: Vec<DueCall>, own: u64, now: u64) {
+        if let Some(released) = self.copying.keep_list(duties, listed, own, now) {
+            self.put_released(released, now);
+        }
+    }
+
+    /// Puts the list that has waited for copies, if it waits no longer.
+    fn put_held(&mut self, now: u64) {
+        let empty = Vec::new(self.alloc);
+        if let Some(released) = self.copying.take_list(now, empty) {
+            self.put_released(released, now);
+        }
+    }
+
+    fn put_released(&mut self, released: ReleasedList, now: u64) {
+        let ReleasedList {
+            duties,
+            listed,
+            asks_again,
+        } = released;
+        if let Some(duties) = duties {
+            self.listed = listed;
+            self.state.put_duties(duties, at(now));
+        }
+        if asks_again {
+            self.state.stir(false);
+        }
     }
 }
 
@@ -377,98 +336,6 @@ impl<R: Runs> Life<R> {
             Some(errand) => Some(errand.call),
             None => None,
         }
-    }
-}
-
-/// Pulls in both directions.
-impl<R: Runs> Life<R> {
-    /// Returns the front from which the node pulls, once the node knows what it has.
-    pub fn counted(&self) -> Option<Front> {
-        if self.state.is_counted() {
-            Some(self.state.front())
-        } else {
-            None
-        }
-    }
-
-    /// Whether a node that asks is owed facts of its own: it sent them here, and they aren't stored
-    /// yet.
-    pub fn is_owed(&self, from: NodeId, asks: &Front) -> bool {
-        self.state.is_owed(from, asks)
-    }
-
-    fn is_awaited(&self, from: NodeId) -> bool {
-        for one in self.awaited.iter() {
-            if one.from == from {
-                return true;
-            }
-        }
-        false
-    }
-
-    fn is_left(&self, from: NodeId) -> bool {
-        for telling in self.tellings.iter() {
-            if telling.from() == from {
-                return true;
-            }
-        }
-        false
-    }
-
-    /// Whether something that a node sent is neither taken nor given up.
-    pub fn waits_for(&self, from: NodeId) -> bool {
-        self.is_awaited(from) || self.is_left(from)
-    }
-
-    /// Learns from another node's pull how many facts of this node it claims to have.
-    pub fn hear_claim(&mut self, me: NodeId, other: NodeId, told: &Front) -> Result<(), Halt> {
-        let (theirs, ours) = (told.count(me), self.state.front().count(me));
-        if theirs > ours && theirs < LAST_NUMBER {
-            self.state.hear_claim(other, theirs);
-            self.start.claim(other, theirs)?;
-        }
-        Ok(())
-    }
-
-    /// Receives what the node at a place sent when it was asked from a front.
-    pub fn hear_telling(
-        &mut self,
-        me: NodeId,
-        teller: usize,
-        asked: &Front,
-        telling: Telling,
-    ) -> Result<(), Halt> {
-        let told = telling.front();
-        self.state.note_heard(telling.from(), &telling);
-        self.start.hear(teller, telling.from(), told.count(me))?;
-        if told.below(asked) {
-            self.state.drop_telling(telling.from());
-            return Ok(());
-        }
-        self.tellings.push(telling)?;
-        Ok(())
-    }
-
-    /// Hands what others sent to the mailbox, as far as there is room.
-    pub fn put_tellings(&mut self) -> Result<(), Halt> {
-        for _telling in 0..self.tellings.len() {
-            if self.tellings.is_empty() || self.state.has_telling() {
-                return Ok(());
-            }
-            let telling = self.tellings.remove(0);
-            self.put_telling(telling)?;
-        }
-        Ok(())
-    }
-
-    fn put_telling(&mut self, telling: Telling) -> Result<(), Halt> {
-        let (front, from) = (telling.front(), telling.from());
-        if !self.state.put_awaited(telling) {
-            self.state.drop_telling(from);
-            return Ok(());
-        }
-        self.awaited.push(Awaited { from, front })?;
-        Ok(())
     }
 }
 

@@ -1,6 +1,7 @@
 // A node: what outlives its lives, and what the simulator knows about it.
 
 use crate::call_summary::{CallSummary, body_of, cancel};
+use crate::copying::Wants;
 use crate::life::Life;
 use node_agenda::Keep;
 use sim_env::{DiskCopies, DiskFaults, Doubt, Halt, History, KnownFacts, Luck, Remains, raised};
@@ -11,6 +12,13 @@ use state_ids::{Front, LraStatus, MAX_NODES, NodeId};
 use std::alloc::Global;
 use wire_callbacks::Duties;
 
+/// The disk of a node, and the facts that are on it.
+#[derive(Drop)]
+struct OwnDisk {
+    copies: DiskCopies,
+    known: KnownFacts,
+}
+
 /// A simulated node.
 #[derive(Drop)]
 pub struct SimNode<R: Runs> {
@@ -19,6 +27,7 @@ pub struct SimNode<R: Runs> {
     /// The number of nodes.
     pub(crate) nodes: u8,
     keep: Keep,
+    wants: Wants,
     /// How far the node's clock is ahead of the others', in milliseconds.
     pub skew: u64,
     /// The node's state while it runs.
@@ -29,6 +38,8 @@ pub struct SimNode<R: Runs> {
     pub known: KnownFacts,
     /// Whether it has started over an older copy and doesn't accept commands yet.
     pub is_recovering: bool,
+    /// The node's own disk, while an empty one is in its place.
+    unmounted: Option<OwnDisk>,
 }
 
 impl<R: Runs> SimNode<R> {
@@ -38,6 +49,7 @@ impl<R: Runs> SimNode<R> {
         number: u8,
         nodes: u8,
         keep: Keep,
+        wants: Wants,
         skew: u64,
     ) -> Result<SimNode<R>, Halt> {
         let (me, nodes) = (NodeId::new(number)?, nodes.clamp(1, MAX_NODES));
@@ -48,11 +60,13 @@ impl<R: Runs> SimNode<R> {
             me,
             nodes,
             keep,
+            wants,
             skew,
             life: None,
             copies,
             known,
             is_recovering: false,
+            unmounted: None,
         })
     }
 
@@ -89,6 +103,35 @@ impl<R: Runs> SimNode<R> {
         };
         let doubted = self.copies.doubted_of(other);
         self.front().count(other).max(heard).max(doubted)
+    }
+
+    /// Whether an empty disk is in the place of the node's own.
+    pub fn is_unmounted(&self) -> bool {
+        self.unmounted.is_some()
+    }
+
+    /// Puts an empty disk in the place of the node's own, which it gets back later.
+    pub fn unmount(&mut self) -> Result<(), Halt> {
+        let copies = DiskCopies::new(self.alloc, self.me, self.nodes)?;
+        let known = KnownFacts::new(self.alloc, self.me, self.nodes)?;
+        self.unmounted = Some(OwnDisk {
+            copies: std::mem::replace(&mut self.copies, copies),
+            known: std::mem::replace(&mut self.known, known),
+        });
+        Ok(())
+    }
+
+    /// Gives the node its own disk back, if an empty one is in its place.
+    pub fn mount(&mut self) {
+        if let Some(OwnDisk { copies, known }) = self.unmounted.take() {
+            self.copies = copies;
+            self.known = known;
+        }
+    }
+
+    /// Makes the oldest copy of the node's disk empty, as if the disk was lost.
+    pub fn lose_disk(&mut self) {
+        self.copies.empty_oldest(self.alloc, self.nodes);
     }
 
     /// Returns the place of the newest copy of the node's disk.
@@ -131,7 +174,7 @@ impl<R: Runs> SimNode<R> {
         let Some(life) = self.life.as_mut() else {
             return Ok(None);
         };
-        match life.make(caller, call, asked.enters, now, unix) {
+        match life.make(caller, call, unix) {
             Ok(Some(reply)) => {
                 life.note(asked, &reply, now);
                 Ok(Some(reply))
@@ -177,9 +220,9 @@ impl<R: Runs> SimNode<R> {
 
     /// Puts the duties of a reply, after checking that they are those that the facts demand.
     pub fn put_duties(&mut self, duties: Duties, now: u64) -> Result<(), Halt> {
-        let listed = self.see_duties(&duties)?;
+        let (listed, own) = (self.see_duties(&duties)?, self.known.own());
         if let Some(life) = self.life.as_mut() {
-            life.put_duties(duties, listed, now);
+            life.put_duties(duties, listed, own, now);
         }
         Ok(())
     }
@@ -214,9 +257,9 @@ impl<R: Runs> SimNode<R> {
 
     /// Begins the node's life.
     pub fn begin(&mut self, run: R, now: u64) {
-        let (me, keep, nodes) = (self.me, self.keep, self.nodes);
-        let waits_for_all = self.is_recovering;
-        self.life = Some(Life::new(self.alloc, me, keep, nodes, run, now, waits_for_all));
+        let (me, keep, nodes, wants) = (self.me, self.keep, self.nodes, self.wants);
+        let is_anew = self.is_recovering || wants.is_anew;
+        self.life = Some(Life::new(self.alloc, me, keep, nodes, run, now, is_anew, wants));
     }
 
     /// Leaves the node with exactly the facts of an older copy, and drops the copies beyond that

@@ -1,0 +1,178 @@
+// The pulls of a node in both directions, and what other nodes have of its facts. `hear_telling`
+// does what `take_over` of node_threads/src/following.rt does, and `is_refused` what `is_refused`
+// of node_server/src/run/clerk.rt does.
+
+use crate::call_summary::CallSummary;
+use crate::copying::{CallStep, CopyState, Release};
+use crate::life::{Awaited, Life};
+use node_inbox::Telling;
+use node_replication::Standing;
+use sim_env::Halt;
+use sim_runs::Runs;
+use state_book::Reply;
+use state_facts::Refusal;
+use state_ids::{Front, LAST_NUMBER, NodeId};
+
+/// Pulls in both directions.
+impl<R: Runs> Life<R> {
+    /// Returns the front from which the node pulls, once the node knows what it has.
+    pub fn counted(&self) -> Option<Front> {
+        if self.state.is_counted() {
+            Some(self.state.front())
+        } else {
+            None
+        }
+    }
+
+    /// Whether a node that asks is owed facts of its own: it sent them here, and they aren't stored
+    /// yet.
+    pub fn is_owed(&self, from: NodeId, asks: &Front) -> bool {
+        self.state.is_owed(from, asks)
+    }
+
+    fn is_awaited(&self, from: NodeId) -> bool {
+        for one in self.awaited.iter() {
+            if one.from == from {
+                return true;
+            }
+        }
+        false
+    }
+
+    fn is_left(&self, from: NodeId) -> bool {
+        for telling in self.tellings.iter() {
+            if telling.from() == from {
+                return true;
+            }
+        }
+        false
+    }
+
+    /// Whether something that a node sent is neither taken nor given up.
+    pub fn waits_for(&self, from: NodeId) -> bool {
+        self.is_awaited(from) || self.is_left(from)
+    }
+
+    /// Learns from another node's pull how many facts of this node it claims to have.
+    pub fn hear_claim(&mut self, me: NodeId, other: NodeId, told: &Front) -> Result<(), Halt> {
+        let (theirs, ours) = (told.count(me), self.state.front().count(me));
+        if theirs > ours && theirs < LAST_NUMBER {
+            self.state.hear_claim(other, theirs);
+            self.start.claim(other, theirs)?;
+        }
+        Ok(())
+    }
+
+    /// Receives what the node at a place sent when it was asked from a front.
+    pub fn hear_telling(
+        &mut self,
+        me: NodeId,
+        teller: usize,
+        asked: &Front,
+        telling: Telling,
+    ) -> Result<(), Halt> {
+        let (told, known) = (telling.front(), self.state.front());
+        if self.copying.is_lost(self.is_anew, &told, &known) {
+            return Ok(());
+        }
+        let was_open = self.state.is_open();
+        self.state.note_heard(telling.from(), &telling);
+        self.start.hear(teller, telling.from(), told.count(me))?;
+        if told.count(me) > known.count(me) && was_open && self.copying.doubt() {
+            self.state.wait_for_own(LAST_NUMBER);
+        }
+        if told.below(asked) {
+            self.state.drop_telling(telling.from());
+            return Ok(());
+        }
+        self.tellings.push(telling)?;
+        Ok(())
+    }
+
+    /// Hands what others sent to the mailbox, as far as there is room.
+    pub fn put_tellings(&mut self) -> Result<(), Halt> {
+        for _telling in 0..self.tellings.len() {
+            if self.tellings.is_empty() || self.state.has_telling() {
+                return Ok(());
+            }
+            let telling = self.tellings.remove(0);
+            self.put_telling(telling)?;
+        }
+        Ok(())
+    }
+
+    fn put_telling(&mut self, telling: Telling) -> Result<(), Halt> {
+        let (front, from) = (telling.front(), telling.from());
+        if !self.state.put_awaited(telling) {
+            self.state.drop_telling(from);
+            return Ok(());
+        }
+        self.awaited.push(Awaited { from, front })?;
+        Ok(())
+    }
+}
+
+/// The copies that other nodes have of its facts.
+impl<R: Runs> Life<R> {
+    /// Whether a worker's call is refused without being made: nothing but a pull is served while
+    /// the disk may be lost, and nothing is stored while the node isn't to store anything.
+    pub fn is_refused(&mut self, asked: &CallSummary, now: u64) -> bool {
+        let is_behind = !self.state.is_open();
+        if !asked.pulls && self.copying.answers_nothing(is_behind) {
+            return true;
+        }
+        asked.enters && (self.is_held(now) || self.copying.refuses())
+    }
+
+    /// Records that a call begins, of a worker or of the writer thread.
+    pub fn begin_step(&mut self, asked: &CallSummary, is_worker: bool) -> CallStep {
+        self.copying.begin(asked.enters, asked.pulls && is_worker)
+    }
+
+    /// Records that a call is over, with this reply. Returns the ticket that the answer of a worker
+    /// waits for, or 0, if there is an answer.
+    pub fn end_step(
+        &mut self,
+        step: CallStep,
+        is_worker: bool,
+        reply: &Reply,
+        now: u64,
+    ) -> Option<u64> {
+        let ticket = self.copying.end(step, reply, now);
+        if !is_worker {
+            return None;
+        }
+        self.copying.promise(step, ticket)
+    }
+
+    /// Records that a call is over that was refused, or wasn't made.
+    pub fn give_up_step(&mut self, step: CallStep, refusal: Option<Refusal>) {
+        self.copying.give_up(step, refusal);
+    }
+
+    /// Records how many facts of this node another one counts when it asks.
+    pub fn hear_copies(&mut self, other: NodeId, front: &Front, now: u64) {
+        let (known, is_behind) = (self.state.front(), !self.state.is_open());
+        self.copying.hear(other, front, &known, is_behind, now);
+    }
+
+    /// Returns the standing of an answer that has waited for a ticket since a moment.
+    pub fn stand(&mut self, ticket: u64, since: u64, now: u64) -> Standing {
+        self.copying.stand(ticket, since, now)
+    }
+
+    /// Takes the release of a list that isn't checked yet.
+    pub fn take_release(&mut self) -> Option<Release> {
+        self.copying.take_release()
+    }
+
+    /// Returns what it does about copies.
+    pub fn copying(&self) -> &CopyState {
+        &self.copying
+    }
+
+    /// Returns the facts that its mailbox knows of.
+    pub fn known(&self) -> Front {
+        self.state.front()
+    }
+}
