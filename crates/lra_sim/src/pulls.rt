@@ -62,10 +62,19 @@ impl<R: Runs> Play<R> {
         false
     }
 
-    /// Begins a pull, unless the node already pulls from that other node, or doesn't know what it
-    /// has.
+    /// Whether something that another node sent waits for its turn to be taken.
+    fn queues(&mut self, asker: usize, teller: usize) -> Result<bool, Halt> {
+        let other = self.me(teller)?;
+        match self.life(asker) {
+            Some(life) => Ok(life.queues(other)),
+            None => Ok(false),
+        }
+    }
+
+    /// Begins a pull, unless the node already pulls from that other node, hasn't begun to take what
+    /// that sent, or doesn't know what it has.
     pub fn begin_pull(&mut self, asker: usize, teller: usize) -> Result<(), Halt> {
-        if asker == teller || self.is_pulling(asker, teller) {
+        if asker == teller || self.is_pulling(asker, teller) || self.queues(asker, teller)? {
             return Ok(());
         }
         let Some(front) = self.counted(asker) else {
@@ -193,7 +202,6 @@ impl<R: Runs> Play<R> {
         let Some(life) = node.life.as_mut() else {
             return Ok(());
         };
-        life.hear_telling(me, teller, &front, telling)?;
-        life.put_tellings()
+        life.hear_telling(me, teller, telling)
     }
 }

@@ -80,7 +80,7 @@ impl<R: Runs> Play<R> {
         };
         self.see_release(place)?;
         let is_any = self.do_or_wait(place, next, waits)?;
-        self.settle_tellings(place, is_open)?;
+        self.note_back(place, is_open)?;
         Ok(is_any)
     }
 
@@ -111,24 +111,16 @@ impl<R: Runs> Play<R> {
         Ok(!is_rest)
     }
 
-    /// Notes that an open node has back what it had lost, and hands what others sent to the
-    /// mailbox.
-    fn settle_tellings(&mut self, place: usize, is_open: bool) -> Result<(), Halt> {
+    /// Notes that an open node has back what it had lost.
+    fn note_back(&mut self, place: usize, is_open: bool) -> Result<(), Halt> {
         let Some(node) = self.nodes.get_mut(place) else {
             return Ok(());
         };
-        let is_back = is_open && node.is_recovering;
-        if is_back {
-            node.is_recovering = false;
+        if !is_open || !node.is_recovering {
+            return Ok(());
         }
-        if let Some(life) = node.life.as_mut() {
-            life.put_tellings()?;
-        }
-        if is_back {
-            self.see_back(place)
-        } else {
-            Ok(())
-        }
+        node.is_recovering = false;
+        self.see_back(place)
     }
 
     fn do_task(&mut self, place: usize, task: Task) -> Result<(), Halt> {
@@ -187,16 +179,33 @@ impl<R: Runs> Play<R> {
     fn take(&mut self, place: usize, telling: Telling) -> Result<(), Halt> {
         let (me, front, from) = (self.me(place)?, telling.front(), telling.from());
         self.tell(texts::of_taking(self.alloc, me, from, &front)?)?;
-        let known = self.known(place)?;
+        let (known, spare) = (self.known(place)?, telling.copy()?);
         let reply = self.call(place, ENTERS, Call::Take(telling.into_delta()))?;
         if reply.is_some() && !is_took(&reply) {
             return Err(untaken(self.alloc, me, from)?);
         }
-        let is_taken = reply.is_some();
-        if let Some(life) = self.life(place) {
-            life.end_telling(from, &front, &known, is_taken);
+        if reply.is_none() {
+            return self.put_back(place, spare);
         }
-        if is_taken || self.luck.is_one_in(2) {
+        if let Some(life) = self.life(place) {
+            life.end_telling(from, &front, &known, true);
+        }
+        Ok(())
+    }
+
+    /// Makes a telling wait again that the journal couldn't take; in few cases it is given up, as if
+    /// memory had run out. Its node may stop then, and start over an older copy.
+    fn put_back(&mut self, place: usize, telling: Telling) -> Result<(), Halt> {
+        let (from, front, now) = (telling.from(), telling.front(), self.now);
+        let (known, is_kept) = (self.known(place)?, !self.luck.is_one_in(4));
+        if let Some(life) = self.life(place) {
+            if is_kept {
+                life.keep_telling(telling, now);
+            } else {
+                life.end_telling(from, &front, &known, false);
+            }
+        }
+        if self.luck.is_one_in(2) {
             return Ok(());
         }
         self.strike(usize::from(from.number()).saturating_sub(1))

@@ -41,7 +41,7 @@ struct PlannedCall {
 }
 
 /// What another node sent that waits in the mailbox, or is being taken.
-#[derive(Clone, Copy)]
+#[derive(Clone, Copy, PartialEq, Eq)]
 struct Awaited {
     from: NodeId,
     front: Front,
@@ -59,8 +59,7 @@ pub struct Life<R: Runs> {
     calls: Vec<InFlight>,
     /// The call that operators want, and until when they wait for it.
     errand: Option<PlannedCall>,
-    /// What others sent that waits for room in the mailbox.
-    tellings: Vec<Telling>,
+    /// What others sent that is neither taken nor given up, as the checks know it.
     awaited: Vec<Awaited>,
     /// The calls of the newest list whose participants haven't answered since, or whose answers
     /// aren't stored yet.
@@ -105,7 +104,6 @@ impl<R: Runs> Life<R> {
             task: None,
             calls: Vec::new(alloc),
             errand: None,
-            tellings: Vec::new(alloc),
             awaited: Vec::new(alloc),
             listed: Vec::new(alloc),
             start: Start::new(alloc, now, is_anew || is_empty),
@@ -190,9 +188,6 @@ impl<R: Runs> Life<R> {
         for one in self.awaited.iter() {
             most = one.front.count(other).max(most);
         }
-        for telling in self.tellings.iter() {
-            most = most.max(telling.front().count(other));
-        }
         most
     }
 }
@@ -232,16 +227,20 @@ impl<R: Runs> Life<R> {
         self.listed.retain(|listed| !is_same(listed, who));
     }
 
-    /// Ends a telling of another node: it was taken here, or won't be.
+    /// Ends a telling of another node: it was taken here, or is given up.
     pub fn end_telling(&mut self, from: NodeId, front: &Front, known: &Front, is_taken: bool) {
         let own = front.count(self.me);
         if is_taken && own > known.count(self.me) {
             self.copying.note_taken_back(own);
         }
-        if !self.awaited.is_empty() {
-            let _told = self.awaited.remove(0);
-        }
-        self.state.end_telling(from, front, is_taken);
+        self.forget_awaited(from, front);
+        self.state.end_telling(front, is_taken);
+    }
+
+    /// Makes a telling wait again that couldn't be taken.
+    pub fn keep_telling(&mut self, telling: Telling, now: u64) {
+        let left = self.state.keep_telling(telling, at(now));
+        self.forget_left(left);
     }
 
     /// Shows the sweep what a page lists.

@@ -1,5 +1,5 @@
 // The pulls of a node in both directions, and what other nodes have of its facts. `hear_telling`
-// does what `take_over` of node_threads/src/following.rt does, and `is_refused` what `is_refused`
+// does what `receive` of node_threads/src/node.rt does, and `is_refused` what `is_refused`
 // of node_server/src/run/clerk.rt does.
 
 use crate::call_summary::CallSummary;
@@ -30,7 +30,8 @@ impl<R: Runs> Life<R> {
         self.state.is_owed(from, asks)
     }
 
-    fn is_awaited(&self, from: NodeId) -> bool {
+    /// Whether something that a node sent is neither taken nor given up.
+    pub fn waits_for(&self, from: NodeId) -> bool {
         for one in self.awaited.iter() {
             if one.from == from {
                 return true;
@@ -39,18 +40,28 @@ impl<R: Runs> Life<R> {
         false
     }
 
-    fn is_left(&self, from: NodeId) -> bool {
-        for telling in self.tellings.iter() {
-            if telling.from() == from {
-                return true;
-            }
-        }
-        false
+    /// Whether something that a node sent waits for its turn to be taken. That node isn't asked
+    /// before.
+    pub fn queues(&self, from: NodeId) -> bool {
+        self.state.queues(from)
     }
 
-    /// Whether something that a node sent is neither taken nor given up.
-    pub fn waits_for(&self, from: NodeId) -> bool {
-        self.is_awaited(from) || self.is_left(from)
+    /// Notes that a telling with this front is taken or given up.
+    pub(crate) fn forget_awaited(&mut self, from: NodeId, front: &Front) {
+        let one = Awaited {
+            from,
+            front: *front,
+        };
+        if let Some(place) = self.awaited.iter().position(|other| *other == one) {
+            let _gone = self.awaited.remove(place);
+        }
+    }
+
+    /// Notes that another telling took the place of one, if there is one.
+    pub(crate) fn forget_left(&mut self, left: Option<Telling>) {
+        if let Some(telling) = left {
+            self.forget_awaited(telling.from(), &telling.front());
+        }
     }
 
     /// Learns from another node's pull how many facts of this node it claims to have.
@@ -63,12 +74,11 @@ impl<R: Runs> Life<R> {
         Ok(())
     }
 
-    /// Receives what the node at a place sent when it was asked from a front.
+    /// Receives what the node at a place sent.
     pub fn hear_telling(
         &mut self,
         me: NodeId,
         teller: usize,
-        asked: &Front,
         telling: Telling,
     ) -> Result<(), Halt> {
         let (told, known) = (telling.front(), self.state.front());
@@ -81,33 +91,15 @@ impl<R: Runs> Life<R> {
         if told.count(me) > known.count(me) && was_open && self.copying.doubt() {
             self.state.wait_for_own(LAST_NUMBER);
         }
-        if told.below(asked) {
-            self.state.drop_telling(telling.from());
-            return Ok(());
-        }
-        self.tellings.push(telling)?;
-        Ok(())
-    }
-
-    /// Hands what others sent to the mailbox, as far as there is room.
-    pub fn put_tellings(&mut self) -> Result<(), Halt> {
-        for _telling in 0..self.tellings.len() {
-            if self.tellings.is_empty() || self.state.has_telling() {
-                return Ok(());
-            }
-            let telling = self.tellings.remove(0);
-            self.put_telling(telling)?;
-        }
-        Ok(())
+        self.put_telling(telling)
     }
 
     fn put_telling(&mut self, telling: Telling) -> Result<(), Halt> {
         let (front, from) = (telling.front(), telling.from());
-        if !self.state.put_awaited(telling) {
-            self.state.drop_telling(from);
-            return Ok(());
+        if let Ok(left) = self.state.put_telling(telling) {
+            self.awaited.push(Awaited { from, front })?;
+            self.forget_left(left);
         }
-        self.awaited.push(Awaited { from, front })?;
         Ok(())
     }
 }
