@@ -83,9 +83,9 @@ fn print_play<P: Print, R: Runs>(
         play.now,
         play.history.facts().len(),
     );
-    let (copied, late) = (play.copies.copied, play.copies.late);
+    let (sent, late) = (play.copies.copied, play.copies.late);
     println!(rt;
-        "seed {seed}, {nodes} nodes: {steps} steps, {now} ms, {facts} facts, {copied} copied, {late} late"
+        "seed {seed}, {nodes} nodes: {steps} steps, {now} ms, {facts} facts, {sent} copied, {late} late"
     )?;
     Ok(true)
 }

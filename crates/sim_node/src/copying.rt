@@ -51,11 +51,15 @@ pub struct ReleasedList {
     pub(crate) asks_again: bool,
 }
 
-/// A list that was released: how many facts of its node it may show, and whether it was late.
+/// What became of a list that waits no longer.
 #[derive(Clone, Copy)]
-pub struct Release {
-    pub own: u64,
-    pub is_late: bool,
+pub enum Release {
+    /// Its participants are called. It may show `own` facts of its node.
+    Called { own: u64, is_late: bool },
+    /// A new one is asked for in its place.
+    AskedAgain,
+    /// It is gone, and nothing is asked for.
+    Dropped,
 }
 
 /// What the other nodes have of a node's facts, and what waits for that.
@@ -69,7 +73,7 @@ pub struct CopyState {
     is_new: bool,
     /// Whether a fact of the node was stored since the start.
     has_entered: bool,
-    /// The list that was released last, until that is checked.
+    /// What became of the list that was released last, until that is checked.
     release: Option<Release>,
 }
 
@@ -258,14 +262,19 @@ impl CopyState {
         let late = self.followers.late();
         let Released { list, asks_again } = self.followers.take_list(at(now))?;
         let is_late = self.followers.late() > late;
-        match list {
-            Some(listing) => Some(self.let_go(listing, is_late, asks_again)),
-            None => Some(ReleasedList {
+        let Some(listing) = list else {
+            self.release = Some(if asks_again {
+                Release::AskedAgain
+            } else {
+                Release::Dropped
+            });
+            return Some(ReleasedList {
                 duties: None,
                 listed: empty,
                 asks_again,
-            }),
-        }
+            });
+        };
+        Some(self.let_go(listing, is_late, asks_again))
     }
 
     fn let_go(&mut self, listing: Listing, is_late: bool, asks_again: bool) -> ReleasedList {
@@ -274,7 +283,7 @@ impl CopyState {
             listed,
             own,
         } = listing;
-        self.release = Some(Release { own, is_late });
+        self.release = Some(Release::Called { own, is_late });
         ReleasedList {
             duties: Some(duties),
             listed,

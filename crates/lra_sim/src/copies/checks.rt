@@ -23,6 +23,12 @@ fn too_late(alloc: Global, me: NodeId) -> Result<Halt, Halt> {
     )?))
 }
 
+fn dropped(alloc: Global, me: NodeId) -> Result<Halt, Halt> {
+    Ok(Halt::Found(format!(in alloc;
+        "node {me} neither calls the participants on a list that it held, nor asks for a new one"
+    )?))
+}
+
 fn waits_long(alloc: Global, me: NodeId, ticket: u64) -> Result<Halt, Halt> {
     Ok(Halt::Found(format!(in alloc;
         "an answer of node {me} waits for ticket {ticket} beyond its patience"
@@ -83,20 +89,20 @@ impl<R: Runs> Play<R> {
         let Some(life) = self.life(place) else {
             return Ok(());
         };
-        let Some(Release { own, is_late }) = life.take_release() else {
-            return Ok(());
-        };
-        let wants = self.copies.wants;
-        if !wants.any() {
-            return Ok(());
+        let (release, wants) = (life.take_release(), self.copies.wants);
+        match release {
+            Some(
+                Release::Called {
+                    own,
+                    is_late: false,
+                },
+            ) if wants.any() => { self.see_copied(place, "a list", own) }
+            Some(Release::Called { is_late: true, .. }) if wants.is_strict => {
+                Err(too_late(self.alloc, self.me(place)?)?)
+            }
+            Some(Release::Dropped) => Err(dropped(self.alloc, self.me(place)?)?),
+            _ => Ok(()),
         }
-        if !is_late {
-            return self.see_copied(place, "a list", own);
-        }
-        if wants.is_strict {
-            return Err(too_late(self.alloc, self.me(place)?)?);
-        }
-        Ok(())
     }
 
     /// Looks at each answer that waits.
