@@ -54,7 +54,7 @@ impl<'a> WrongWord<'a> {
             WrongWord::Names(text) => (
                 "names=",
                 text,
-                "NAME has to be of letters, digits, and . _ -",
+                "NAME has to be letters, digits, dots, underscores and hyphens",
             ),
             WrongWord::Keep(text) => ("keep=", text, "MS has to be a number of milliseconds"),
             WrongWord::KeepFailed(text) => (
@@ -65,7 +65,7 @@ impl<'a> WrongWord<'a> {
             WrongWord::Group(text) => (
                 "group=",
                 text,
-                "NAME has to be of 1 to 64 letters, digits, and . _ -",
+                "NAME has to be 1 to 64 letters, digits, dots, underscores and hyphens",
             ),
             WrongWord::Copies(text) => ("copies=", text, "K has to be a number"),
             WrongWord::Patience(text) => (
@@ -73,37 +73,25 @@ impl<'a> WrongWord<'a> {
                 text,
                 "MS has to be a number of milliseconds",
             ),
-            WrongWord::Misplaced(text) => (
-                "",
-                text,
-                "an option stands once, before the addresses, and in this order",
-            ),
+            WrongWord::Misplaced(text) => ("", text, "given twice, or not in the order below"),
             WrongWord::Unknown(text) => ("", text, "no such option"),
             WrongWord::Address(text) => ("", text, "has to be HOST:PORT"),
-            WrongWord::Twice(text) => ("", text, "each node has another address"),
+            WrongWord::Twice(text) => ("", text, "each node needs an address of its own"),
             WrongWord::NoAddresses => ("HOST:PORT", "", "has to be given"),
             WrongWord::NinthNode(text) => ("", text, "a group has at most 8 nodes"),
             WrongWord::NoSuchNode(text) => ("", text, "HOST:PORT has to be given for each node"),
-            WrongWord::SharedListen(text) => (
-                "listen=",
-                text,
-                "several nodes can't listen at one address",
-            ),
+            WrongWord::SharedListen(text) => ("listen=", text, "not allowed with several nodes"),
             WrongWord::NoPorts(text) => (
                 "operate=",
                 text,
-                "each further node takes the next port, up to 65535",
+                "the last node's port would be above 65535",
             ),
             WrongWord::FewNodes(text) => (
                 "copies=",
                 text,
                 "K has to be less than the number of nodes",
             ),
-            WrongWord::SharedCopies(text) => (
-                "copies=",
-                text,
-                "the node has to be alone in its process",
-            ),
+            WrongWord::SharedCopies(text) => ("copies=", text, "not allowed with several nodes"),
             WrongWord::PatienceAlone(text) => ("patience=", text, "needs copies=K"),
             WrongWord::StrictAlone => ("strict", "", "needs copies=K"),
         }
