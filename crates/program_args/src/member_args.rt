@@ -324,7 +324,8 @@ fn own(alloc: Global, text: Option<&str>) -> Result<Option<String>, AllocError>
     }
 }
 
-/// Returns the members that the words ask for, or the first word that is wrong.
+/// Returns the members that the words ask for, or the word that is wrong. It looks at the nodes, the
+/// folder, the options, the addresses, and last at whether the options fit the nodes.
 pub fn asked_by<'a>(alloc: Global, words: &'a [String]) -> Result<MemberArgs, MemberError<'a>>
     ensures asks { MatchResult result (λ asked. AskMembers (map string_bytes words.now) asked.first asked.last
         (choices_of asked) (map reached asked.peers.items) (string_bytes asked.folder))
