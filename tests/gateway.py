@@ -1133,21 +1133,39 @@ class TestGateway(checks.Checked):
         gateway = self.front([doors_of(self.nodes)])
         good = gateway.words()
         listen, base, calls, group = good
-        wrong: tuple[Sequence[str], ...] = (
-            (), good[1:], good[:3], (base, listen, calls, group), (*good, "more=1"), (*good, HOST), (listen, *good),
-            (listen, "base=lra", calls, group), (listen, "base=http://", calls, group),
-            (listen, base, "calls=0", group), (listen, base, "calls=65536", group),
-            (listen, base, f"calls={HOST}:{gateway.calls}", group),
-            (listen, base, calls, "limit=x", group), (listen, base, calls, "again=1", "wait=1", group),
-            (listen, base, calls, "short=t", group), (listen, base, calls, "group="), (listen, base, calls, "group=h"),
-            (*good, *[f"group={nodes}"] * 8), (listen, base, calls, f"group={','.join([nodes] * 3)}"), ("--help",),
-            ("--version", *good))
-        for words in wrong:
+        many = f"group={','.join([nodes] * 3)}"
+        address = f"calls={HOST}:{gateway.calls}"
+        first, port = "listen=IP:PORT: has to be the first word", "without via= it has to be a PORT"
+        url = "URL has to begin with http:// or https:// and a host"
+        door = "has to be HOST:PORT or HOST:PORT/PORT, with commas between several"
+        wrong: tuple[tuple[Sequence[str], str], ...] = (
+            ((), first), (good[1:], first), (good[:3], "group=HOST:PORT: has to be given"),
+            ((base, listen, calls, group), first), ((*good, "more=1"), "more=1: no such option"),
+            ((*good, HOST), f"{HOST}: no such option"), ((listen, *good), "base=URL: has to be the second word"),
+            ((listen, "base=lra", calls, group), f"base=lra: {url}"),
+            ((listen, "base=http://", calls, group), f"base=http://: {url}"),
+            ((listen, base, "calls=0", group), f"calls=0: {port}"),
+            ((listen, base, "calls=65536", group), f"calls=65536: {port}"),
+            ((listen, base, address, group), f"{address}: {port}"),
+            ((listen, base, calls, "limit=x", group), "limit=x: MS has to be a number of milliseconds"),
+            ((listen, base, calls, "again=1", "wait=1", group), "wait=1: given twice, or not in the order below"),
+            ((listen, base, calls, "short=t", group), "short=t: has to be NAME=HOST:PORT/PATH, NAME being 1 to 16 "
+                                                      "letters, digits, hyphens and underscores"),
+            ((listen, base, calls, "short=t=h", "short=t=i", group),
+             "short=t=i: each short form needs a NAME of its own"),
+            ((listen, base, calls, "group="), f"group=: {door}"),
+            ((listen, base, calls, "group=h"), f"group=h: {door}"),
+            ((*good, *[f"group={nodes}"] * 8), f"group={nodes}: a gateway has at most 8 groups"),
+            ((listen, base, calls, many), f"{many}: a group has at most 8 nodes"), (("--help",), first),
+            (("--version", *good), first))
+        for words, said in wrong:
             status, text = ended(gateway, words)
-            is_so = status == 2 and text.startswith("usage: ") and "lra_gateway listen=" in text
+            is_so = status == 2 and text.startswith(f"lra_gateway: {said}\nusage: LRA_GATEWAY_KEY=HEX lra_gateway ")
             self.check(f"wrong arguments: {' '.join(words)[:100]}", is_so, (status, text[-200:]))
         for key in (None, "", KEY[:62], KEY + "00", KEY[:63] + "g"):
-            self.same(f"an invalid key: {key}", 2, ended(gateway, good, key)[0])
+            status, text = ended(gateway, good, key)
+            is_so = status == 2 and text.startswith(f"lra_gateway: {KEY_NAME} has to be 64 hexadecimal digits\nusage: ")
+            self.check(f"an invalid key: {key}", is_so, (status, text[-200:]))
         with socket.create_server((HOST, gateway.port)):
             self.same("a port in use", 1, ended(gateway, good)[0])
         whole = (listen, f"{base}/", calls, "limit=1", "wait=2", "again=3", "allow=h,i:80", "short=a=h:80/p",

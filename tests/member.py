@@ -61,211 +61,91 @@ WRONG_REPORTS = [
     ('{"act":"complete"}', "outcome is none of busy, done and failed"),
 ]
 EIGHT = [f"h:{number}" for number in range(1, 9)]
-# Arguments that the program doesn't accept; DIR stands for a folder.
-OTHER_WORDS: list[list[str]] = [
-    [],
-    ["1"],
-    ["1", "DIR"],
-    ["--version", "1"],
-    ["-version"],
-    ["--version1"],
-    ["0", "DIR", "h:1"],
-    ["2", "DIR", "h:1"],
-    ["01", "DIR", "h:1"],
-    ["9", "DIR", *EIGHT, "h:9"],
-    ["1", "DIR", *EIGHT, "h:9"],
-    ["1", "DIR", "h"],
-    ["1", "DIR", "h:0"],
-    ["1", "DIR", "h:65536"],
-    ["1", "DIR", ":1"],
-    ["1", "DIR", "::1:1"],
-    ["1", "DIR", "[h]:1"],
-    ["1", "DIR", "[::1:1"],
-    ["1", "DIR", "h:1", "h:1"],
-    ["1", "DIR", "listen=h:1", "h:1"],
-    ["1", "DIR", "listen=127.0.0.1:1", "listen=127.0.0.1:1", "h:1"],
-    ["1", "DIR", "operate=", "h:1"],
-    ["1", "DIR", "operate=8170", "h:1"],
-    ["1", "DIR", "operate=h:1", "h:1"],
-    ["1", "DIR", "operate=127.0.0.1:0", "h:1"],
-    ["1", "DIR", "operate=127.0.0.1:65536", "h:1"],
-    ["1", "DIR", "operate=127.0.0.1:1", "operate=127.0.0.1:1", "h:1"],
-    ["1", "DIR", "operate=127.0.0.1:1", "listen=127.0.0.1:2", "h:1"],
-    ["1", "DIR", "keep=1", "operate=127.0.0.1:1", "h:1"],
-    ["1-2", "DIR", "operate=127.0.0.1:65535", "h:1", "h:2"],
-    ["2-3", "DIR", "operate=[::1]:65535", "keep=1", "h:1", "h:2", "h:3"],
-    ["1", "DIR", "keep=x", "h:1"],
-    ["1", "DIR", "keep=01", "h:1"],
-    ["1", "DIR", "keep=18446744073709551616", "h:1"],
-    ["1", "DIR", "keep=1", "keep=1", "h:1"],
-    ["1", "DIR", "keep=1", "listen=127.0.0.1:1", "h:1"],
-    ["1", "DIR", "keep-failed=", "h:1"],
-    ["1", "DIR", "keep-failed=-1", "h:1"],
-    ["1", "DIR", "keep-failed=1", "keep=1", "h:1"],
-    ["1", "DIR", "keep=1", "keep-failed=1", "keep-failed=1", "h:1"],
-    ["1", "DIR", "keep-other=1", "h:1"],
-    ["1", "DIR", "names=", "h:1"],
-    ["1", "DIR", "names=a b", "h:1"],
-    ["1", "DIR", "names=a:1", "h:1"],
-    ["1", "DIR", "names=a", "names=b", "h:1"],
-    ["1", "DIR", "names=a", "operate=127.0.0.1:1", "h:1"],
-    ["1", "DIR", "keep=1", "names=a", "h:1"],
-    ["1", "DIR", "group=", "h:1"],
-    ["1", "DIR", "group=a,b", "h:1"],
-    ["1", "DIR", f"group={'g' * 65}", "h:1"],
-    ["1", "DIR", "group=a", "group=a", "h:1"],
-    ["1", "DIR", "group=a", "keep=1", "h:1"],
-    ["1", "DIR", "copies=", "h:1", "h:2"],
-    ["1", "DIR", "copies=2", "h:1", "h:2"],
-    ["1", "DIR", "copies=1", "h:1"],
-    ["1", "DIR", "copies=1", "group=a", "h:1", "h:2"],
-    ["1-2", "DIR", "copies=1", "h:1", "h:2", "h:3"],
-    ["1", "DIR", "patience=1", "h:1", "h:2"],
-    ["1", "DIR", "copies=1", "patience=x", "h:1", "h:2"],
-    ["1", "DIR", "patience=1", "copies=1", "h:1", "h:2"],
-    ["1", "DIR", "strict", "h:1", "h:2"],
-    ["1", "DIR", "strict", "copies=1", "h:1", "h:2"],
-    ["1", "DIR", "copies=1", "anew", "strict", "h:1", "h:2"],
-    ["1", "DIR", "anew=", "h:1"],
-    ["1", "DIR", "anew", "anew", "h:1"],
-    ["1", "DIR", "anew", "group=a", "h:1"],
-    ["1", "DIR", "h:1", "anew"],
-    ["1", "DIR", "anew"],
-    ["1", "DIR", "h:1", "keep=1"],
-    ["2-1", "DIR", "h:1", "h:2"],
-    ["1-3", "DIR", "h:1", "h:2"],
-    ["1-", "DIR", "h:1", "h:2"],
-    ["1-2", "DIR", "listen=127.0.0.1:1", "h:1", "h:2"],
+# What the program says of wrong arguments, where it says the same of several.
+NODES = "I has to be a number from 1 to 8, and I-J two of them in order"
+NAMES = "NAME has to be letters, digits, dots, underscores and hyphens"
+GROUP = "NAME has to be 1 to 64 letters, digits, dots, underscores and hyphens"
+TIME = "MS has to be a number of milliseconds"
+ORDER = "given twice, or not in the order below"
+PORTS = "the last node's port would be above 65535"
+LONG = "g" * 65
+# Arguments that the program doesn't accept, with what it says of the first that is wrong; DIR stands for a folder.
+OTHER_WORDS: list[tuple[str, str]] = [
+    ("", "I or I-J: has to be given"),
+    ("1", "DIR: has to be given"),
+    ("1 DIR", "HOST:PORT: has to be given"),
+    ("--version 1", f"--version: {NODES}"),
+    ("-version", f"-version: {NODES}"),
+    ("--version1", f"--version1: {NODES}"),
+    ("0 DIR h:1", f"0: {NODES}"),
+    ("2 DIR h:1", "2: HOST:PORT has to be given for each node"),
+    ("01 DIR h:1", f"01: {NODES}"),
+    (f"9 DIR {' '.join(EIGHT)} h:9", f"9: {NODES}"),
+    (f"1 DIR {' '.join(EIGHT)} h:9", "h:9: a group has at most 8 nodes"),
+    ("1 DIR h", "h: has to be HOST:PORT"),
+    ("1 DIR h:0", "h:0: has to be HOST:PORT"),
+    ("1 DIR h:65536", "h:65536: has to be HOST:PORT"),
+    ("1 DIR :1", ":1: has to be HOST:PORT"),
+    ("1 DIR ::1:1", "::1:1: has to be HOST:PORT"),
+    ("1 DIR [h]:1", "[h]:1: has to be HOST:PORT"),
+    ("1 DIR [::1:1", "[::1:1: has to be HOST:PORT"),
+    ("1 DIR h:1 h:1", "h:1: each node needs an address of its own"),
+    ("1 DIR listen=h:1 h:1", "listen=h:1: has to be IP:PORT"),
+    ("1 DIR listen=127.0.0.1:1 listen=127.0.0.1:1 h:1", f"listen=127.0.0.1:1: {ORDER}"),
+    ("1 DIR operate= h:1", "operate=: has to be IP:PORT"),
+    ("1 DIR operate=8170 h:1", "operate=8170: has to be IP:PORT"),
+    ("1 DIR operate=h:1 h:1", "operate=h:1: has to be IP:PORT"),
+    ("1 DIR operate=127.0.0.1:0 h:1", "operate=127.0.0.1:0: has to be IP:PORT"),
+    ("1 DIR operate=127.0.0.1:65536 h:1", "operate=127.0.0.1:65536: has to be IP:PORT"),
+    ("1 DIR operate=127.0.0.1:1 operate=127.0.0.1:1 h:1", f"operate=127.0.0.1:1: {ORDER}"),
+    ("1 DIR operate=127.0.0.1:1 listen=127.0.0.1:2 h:1", f"listen=127.0.0.1:2: {ORDER}"),
+    ("1 DIR keep=1 operate=127.0.0.1:1 h:1", f"operate=127.0.0.1:1: {ORDER}"),
+    ("1-2 DIR operate=127.0.0.1:65535 h:1 h:2", f"operate=127.0.0.1:65535: {PORTS}"),
+    ("2-3 DIR operate=[::1]:65535 keep=1 h:1 h:2 h:3", f"operate=[::1]:65535: {PORTS}"),
+    ("1 DIR keep=x h:1", f"keep=x: {TIME}"),
+    ("1 DIR keep=01 h:1", f"keep=01: {TIME}"),
+    ("1 DIR keep=18446744073709551616 h:1", f"keep=18446744073709551616: {TIME}"),
+    ("1 DIR keep=1 keep=1 h:1", f"keep=1: {ORDER}"),
+    ("1 DIR keep=1 listen=127.0.0.1:1 h:1", f"listen=127.0.0.1:1: {ORDER}"),
+    ("1 DIR keep-failed= h:1", f"keep-failed=: {TIME}"),
+    ("1 DIR keep-failed=-1 h:1", f"keep-failed=-1: {TIME}"),
+    ("1 DIR keep-failed=1 keep=1 h:1", f"keep=1: {ORDER}"),
+    ("1 DIR keep=1 keep-failed=1 keep-failed=1 h:1", f"keep-failed=1: {ORDER}"),
+    ("1 DIR keep-other=1 h:1", "keep-other=1: no such option"),
+    ("3 DIR listn=127.0.0.1:1 h:1", "listn=127.0.0.1:1: no such option"),
+    ("1 DIR names= h:1", f"names=: {NAMES}"),
+    ("1 DIR names=a_b! h:1", f"names=a_b!: {NAMES}"),
+    ("1 DIR names=a:1 h:1", f"names=a:1: {NAMES}"),
+    ("1 DIR names=a names=b h:1", f"names=b: {ORDER}"),
+    ("1 DIR names=a operate=127.0.0.1:1 h:1", f"operate=127.0.0.1:1: {ORDER}"),
+    ("1 DIR keep=1 names=a h:1", f"names=a: {ORDER}"),
+    ("1 DIR group= h:1", f"group=: {GROUP}"),
+    ("1 DIR group=a,b h:1", f"group=a,b: {GROUP}"),
+    (f"1 DIR group={LONG} h:1", f"group={LONG}: {GROUP}"),
+    ("1 DIR group=a group=a h:1", f"group=a: {ORDER}"),
+    ("1 DIR group=a keep=1 h:1", f"keep=1: {ORDER}"),
+    ("1 DIR copies= h:1 h:2", "copies=: K has to be a number"),
+    ("1 DIR copies=2 h:1 h:2", "copies=2: K has to be less than the number of nodes"),
+    ("1 DIR copies=1 h:1", "copies=1: K has to be less than the number of nodes"),
+    ("1 DIR copies=1 group=a h:1 h:2", f"group=a: {ORDER}"),
+    ("1-2 DIR copies=1 h:1 h:2 h:3", "copies=1: not allowed with several nodes"),
+    ("1 DIR patience=1 h:1 h:2", "patience=1: needs copies=K"),
+    ("1 DIR copies=1 patience=x h:1 h:2", f"patience=x: {TIME}"),
+    ("1 DIR patience=1 copies=1 h:1 h:2", f"copies=1: {ORDER}"),
+    ("1 DIR strict h:1 h:2", "strict: needs copies=K"),
+    ("1 DIR strict copies=1 h:1 h:2", f"copies=1: {ORDER}"),
+    ("1 DIR copies=1 anew strict h:1 h:2", f"strict: {ORDER}"),
+    ("1 DIR anew= h:1", "anew=: no such option"),
+    ("1 DIR anew anew h:1", f"anew: {ORDER}"),
+    ("1 DIR anew group=a h:1", f"group=a: {ORDER}"),
+    ("1 DIR h:1 anew", f"anew: {ORDER}"),
+    ("1 DIR anew", "HOST:PORT: has to be given"),
+    ("1 DIR h:1 keep=1", f"keep=1: {ORDER}"),
+    ("2-1 DIR h:1 h:2", f"2-1: {NODES}"),
+    ("1-3 DIR h:1 h:2", "1-3: HOST:PORT has to be given for each node"),
+    ("1- DIR h:1 h:2", f"1-: {NODES}"),
+    ("1-2 DIR listen=127.0.0.1:1 h:1 h:2", "listen=127.0.0.1:1: not allowed with several nodes"),
 ]
-
-
-def begun_at_once(group: Group, node: int) -> tuple[str, float]:
-    """Starts a node, and begins an LRA there as soon as it accepts a connection. Returns the LRA, and how long the
-    answer took."""
-    group.run(node)
-    end = time.monotonic() + SLOW
-    while time.monotonic() < end:
-        asked = time.monotonic()
-        try:
-            return group.begin(node), time.monotonic() - asked
-        except ConnectionRefusedError:
-            time.sleep(0.002)
-    raise SystemExit(f"node {node} doesn't start: {group.log(node)}")
-
-
-def serve_bytes(listener: socket.socket, answers: list[bytes]) -> None:
-    """Answers each connection with the next of some byte strings, whatever it asks, until the listener is closed."""
-    i = 0
-    while True:
-        try:
-            connection, _ = listener.accept()
-        except OSError:
-            return
-        with connection:
-            connection.settimeout(1)
-            try:
-                connection.recv(65536)
-                connection.sendall(answers[i % len(answers)])
-            except OSError:
-                pass
-        i += 1
-
-
-def with_length(body: bytes, length: int | None = None) -> bytes:
-    """Returns an answer that states a length."""
-    stated = len(body) if length is None else length
-    return f"HTTP/1.1 200 OK\r\nContent-Length: {stated}\r\nConnection: close\r\n\r\n".encode() + body
-
-
-def slow_participant(port: int = 0) -> Participant:
-    """Makes a server of participants. Those at /slow answer 503, since they report their outcomes by themselves."""
-    part = Participant(port)
-    part.answers["/slow"] = 503
-    return part
-
-
-def killed_once(group: Group, which: tuple[int, ...], dice: random.Random) -> tuple[str, dict[str, object]]:
-    """Kills nodes under load, starts them again, and checks what is there. Returns what the load was, and what is
-    wrong."""
-    part = slow_participant()
-    load = Load(group, dice, lambda _: part)
-    comes_to(SLOW, lambda: len(load.noted) > 9)
-    time.sleep(dice.uniform(0, 0.5))
-    group.kill(*which)
-    time.sleep(dice.choice((0, 0.3)))
-    group.start(*which)
-    time.sleep(0.2)
-    load.stop()
-    wrong: dict[str, object] = {"lost": list(lost(group, load.noted))}
-    told = load.told()
-    for lra, status in group.shown_at_home().items():
-        if status == "Active":
-            group.finish(home_of(lra), lra, "cancel")
-    comes_to(SLOW, lambda: all(group.shown_at_home()[lra] in ENDED for lra in told))
-    wrong["unheard"] = [lra for lra, status in group.shown_at_home().items() if lra in told and status not in ENDED]
-    part.answers["/slow"] = 200
-    comes_to(SLOW, lambda: set(group.shown_at_home().values()) <= ENDED)
-    ended = group.shown_at_home()
-    wrong["not alike"] = not comes_to(SLOW, group.are_alike)
-    wrong["misled"] = list(misled(part, load.noted, ended))
-    wrong["not ended"] = sorted(set(ended.values()) - ENDED)
-    part.close()
-    return f"{len(load.noted)} LRAs, {len(told)} outcomes reported", {what: seen for what,
-                                                                      seen in wrong.items() if seen}
-
-
-def purge_all(group: Group) -> dict[str, str]:
-    """Purges all LRAs, and returns those that are still there."""
-    with concurrent.futures.ThreadPoolExecutor(6) as pool:
-        list(pool.map(lambda lra: group.purge(home_of(lra), lra), group.shown_at_home()))
-    return group.shown_at_home()
-
-
-class Flow:
-    """LRAs that go through a home, which may be full."""
-
-    def __init__(self, group: Group) -> None:
-        self.group, self.part = group, Participant()
-        self.refusals: list[str | None] = []
-
-    def begin(self, body: Json) -> str:
-        """Begins an LRA, as soon as there is room."""
-        while True:
-            code, answer = self.group.ask(1, "POST", "/lra", body)
-            if code == 201:
-                return answer["lra"]
-            self.refusals.append(answer.get("refused"))
-            time.sleep(0.02)
-
-    def one(self, i: int) -> tuple[str, int]:
-        """Begins and closes an LRA. One in ten has a participant and a listener, and one in ten has another LRA nested
-        in it."""
-        lra, url = self.begin({}), self.part.url
-        if i % 10 == 1:
-            self.group.join(1, lra, compensate=f"{url}/c", complete=f"{url}/k", after=f"{url}/a")
-        if i % 10 == 2:
-            nested = self.begin({"parent": lra})
-            self.group.join(1, nested, compensate=f"{url}/c", forget=f"{url}/f")
-            self.group.finish(1, nested)
-        return lra, self.group.finish(1, lra)
-
-
-def move(files: Iterable[str], folder: str) -> None:
-    os.makedirs(folder, exist_ok=True)
-    for file in files:
-        shutil.move(file, folder)
-
-
-class Strange(Group):
-    """Seven nodes, of which only 1, 2 and 7 are members. Node 4 has a name that doesn't resolve, and node 7 is
-    configured as the first of two nodes."""
-
-    def __init__(self, count: int, folder: str, *options: str) -> None:
-        super().__init__(count, folder, *options)
-        self.addresses[3] = "no-such-host.invalid:1"
-
-    def addresses_for(self, number: int) -> list[str]:
-        return [self.addresses[6], self.addresses[0]] if number == 7 else self.addresses
 
 
 class TestMembers(checks.Checked):
@@ -276,10 +156,12 @@ class TestMembers(checks.Checked):
 
     def test_words(self) -> None:
         """Wrong arguments, missing folders and ports in use are refused, and a node listens where it should."""
-        for given in OTHER_WORDS:
+        others = [(given.split(), said) for given, said in OTHER_WORDS]
+        others += [(["1", "DIR", "names=a b", "h:1"], f"names=a b: {NAMES}"), (["", "DIR", "h:1"], f": {NODES}")]
+        for given, said in others:
             ran = self.run_with(*[word.replace("DIR", self.folder) for word in given])
-            is_usage = ran.returncode == 2 and ran.stderr.startswith(USAGE)
-            self.check(f"other arguments: {' '.join(given)}", is_usage, ran)
+            wanted = 2, b"", f"lra_node: {said}\n".encode() + USAGE
+            self.check(f"other arguments: {' '.join(given)}", (ran.returncode, ran.stdout, ran.stderr) == wanted, ran)
         own, other, third, fourth = free_row(4)
         with socket.create_server(("127.0.0.1", own)):
             ran = self.run_with("1", self.folder, f"h:{own}")

@@ -1,5 +1,7 @@
 // The values of the command line's words.
+ghost use Rattle.std.specs.Prelude.{◌≤◌, length};
 
+use crate::wrong_arg::{GatewayError, wrong};
 use program_args::{said_by, text_of};
 
 /// The value of each named word, and the words of short forms and of groups.
@@ -18,7 +20,9 @@ pub(crate) struct GatewayTexts<'a> {
 }
 
 /// Returns how many words from the first on begin with a name.
-fn count_of(name: &str, words: &[String]) -> usize {
+fn count_of(name: &str, words: &[String]) -> usize
+    ensures { result ≤ length words.now }
+{
     for place in 0..words.len() {
         if !words[place].as_str().starts_with(name) {
             return place;
@@ -27,26 +31,24 @@ fn count_of(name: &str, words: &[String]) -> usize {
     words.len()
 }
 
-/// Returns the values of the words, or `None` if they aren't these words in this order.
-pub(crate) fn given_by(words: &[String]) -> Option<GatewayTexts<'_>> {
+/// Returns the values of the words, which begin with `listen=`, `base=` and `calls=`.
+pub(crate) fn given_by(words: &[String]) -> Result<GatewayTexts<'_>, GatewayError<'_>> {
     let Some((listen, rest)) = said_by("listen=", words) else {
-        return None;
+        return Err(wrong("listen=", "IP:PORT", "has to be the first word"));
     };
     let Some((base, rest)) = said_by("base=", rest) else {
-        return None;
+        return Err(wrong("base=", "URL", "has to be the second word"));
     };
     let Some((calls, rest)) = said_by("calls=", rest) else {
-        return None;
+        return Err(wrong("calls=", "PORT", "has to be the third word"));
     };
     let (via, rest) = text_of("via=", rest);
     let (limit, rest) = text_of("limit=", rest);
     let (wait, rest) = text_of("wait=", rest);
     let (again, rest) = text_of("again=", rest);
     let (allow, rest) = text_of("allow=", rest);
-    let Some((shorts, groups)) = rest.split_at_checked(count_of("short=", rest)) else {
-        return None;
-    };
-    Some(GatewayTexts {
+    let (shorts, groups) = rest.split_at(count_of("short=", rest));
+    Ok(GatewayTexts {
         listen,
         base,
         calls,

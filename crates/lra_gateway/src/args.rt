@@ -4,8 +4,9 @@ use crate::arg_texts::given_by;
 pub use crate::key::key_of;
 pub use crate::parts::Door;
 use crate::parts::{address_of, allowed_by, base_of, calls_of, doors_of, short_of, time_of};
+pub use crate::wrong_arg::GatewayError;
+use crate::wrong_arg::{stray, wrong, wrong_unless_full};
 use node_sockets::Peer;
-use program_args::ArgsError;
 use state_ids::MAX_NODES;
 use std::alloc::Global;
 use std::net::SocketAddr;
@@ -13,6 +14,16 @@ use wire_narayana::Short;
 
 /// The most groups.
 const MOST_GROUPS: usize = 8;
+
+/// What words have to be.
+const BASE: &str = "URL has to begin with http:// or https:// and a host";
+
+const SHORT: &str =
+    "has to be NAME=HOST:PORT/PATH, NAME being 1 to 16 letters, digits, hyphens and underscores";
+
+const GROUP: &str = "has to be HOST:PORT or HOST:PORT/PORT, with commas between several";
+
+const PORTS: &str = "the last group's port, here or in via=, would be above 65535";
 
 /// How long an end is waited for, and how long a call is repeated, in milliseconds.
 const USUAL_WAIT: u64 = 1_000;
@@ -55,80 +66,73 @@ fn stands_in(short: &str, shorts: &[Short]) -> bool {
     false
 }
 
-/// Whether no two short forms have the same name.
-fn are_apart(shorts: &[Short]) -> bool {
-    for place in 0..shorts.len() {
-        if stands_in(shorts[place].short.as_str(), &shorts[..place]) {
-            return false;
-        }
-    }
-    true
-}
-
-/// Returns the short forms that words give, in their order.
-fn shorts_said(alloc: Global, words: &[String]) -> Result<Vec<Short>, ArgsError> {
+/// Returns the short forms that words give, each with another name, in their order.
+fn shorts_said<'a>(alloc: Global, words: &'a [String]) -> Result<Vec<Short>, GatewayError<'a>> {
     let mut shorts = Vec::new(alloc);
     for word in words {
-        let Some(text) = word.as_str().strip_prefix("short=") else {
-            return Err(ArgsError::OtherWords);
+        let word = word.as_str();
+        let Some(text) = word.strip_prefix("short=") else {
+            return Err(stray(word));
         };
-        match short_of(alloc, text) {
-            Ok(short) => {
-                if shorts.push(short).is_err() {
-                    return Err(ArgsError::NoMemory);
-                }
-            }
-            Err(fault) => return Err(fault),
+        let short = match short_of(alloc, text) {
+            Ok(short) => short,
+            Err(fault) => return Err(wrong_unless_full(fault, "short=", text, SHORT)),
+        };
+        if stands_in(short.short.as_str(), &shorts) {
+            return Err(wrong("short=", text, "each short form needs a NAME of its own"));
+        }
+        if shorts.push(short).is_err() {
+            return Err(GatewayError::NoMemory);
         }
     }
     Ok(shorts)
 }
 
-/// Returns the short forms that words give, each with another name, the one with the longest
-/// beginning first.
-fn shorts_of(alloc: Global, words: &[String]) -> Result<Vec<Short>, ArgsError> {
+/// Returns the short forms that words give, the one with the longest beginning first.
+fn shorts_of<'a>(alloc: Global, words: &'a [String]) -> Result<Vec<Short>, GatewayError<'a>> {
     let mut shorts = match shorts_said(alloc, words) {
         Ok(shorts) => shorts,
         Err(fault) => return Err(fault),
     };
-    if !are_apart(&shorts) {
-        return Err(ArgsError::OtherWords);
-    }
     match shorts.sort_by_key(|short| usize::MAX - short.long.len()) {
         Ok(()) => Ok(shorts),
-        Err(_) => Err(ArgsError::NoMemory),
+        Err(_) => Err(GatewayError::NoMemory),
     }
 }
 
 /// Returns the nodes of the group that a word gives.
-fn group_of(alloc: Global, word: &str) -> Result<Vec<Door>, ArgsError> {
+fn group_of<'a>(alloc: Global, word: &'a str) -> Result<Vec<Door>, GatewayError<'a>> {
     let Some(text) = word.strip_prefix("group=") else {
-        return Err(ArgsError::OtherWords);
+        return Err(stray(word));
     };
     let doors = match doors_of(alloc, text) {
         Ok(doors) => doors,
-        Err(fault) => return Err(fault),
+        Err(fault) => return Err(wrong_unless_full(fault, "group=", text, GROUP)),
     };
     if doors.len() > usize::from(MAX_NODES) {
-        return Err(ArgsError::OtherWords);
+        return Err(wrong("group=", text, "a group has at most 8 nodes"));
     }
     Ok(doors)
 }
 
 /// Returns the groups that words give.
-fn groups_of(alloc: Global, words: &[String]) -> Result<Vec<Vec<Door>>, ArgsError> {
-    if words.is_empty() || words.len() > MOST_GROUPS {
-        return Err(ArgsError::OtherWords);
+fn groups_of<'a>(alloc: Global, words: &'a [String]) -> Result<Vec<Vec<Door>>, GatewayError<'a>> {
+    if words.is_empty() {
+        return Err(wrong("group=", "HOST:PORT", "has to be given"));
     }
     let mut groups = Vec::new(alloc);
     for word in words {
-        match group_of(alloc, word.as_str()) {
+        let word = word.as_str();
+        match group_of(alloc, word) {
             Ok(doors) => {
                 if groups.push(doors).is_err() {
-                    return Err(ArgsError::NoMemory);
+                    return Err(GatewayError::NoMemory);
                 }
             }
             Err(fault) => return Err(fault),
+        }
+        if groups.len() > MOST_GROUPS {
+            return Err(wrong("", word, "a gateway has at most 8 groups"));
         }
     }
     Ok(groups)
@@ -150,32 +154,27 @@ fn have_ports(calls: SocketAddr, via: &Option<Peer>, groups: usize) -> bool {
     are_ports(calls.port(), groups)
 }
 
-/// Returns what the words ask for.
-pub fn asked_by(alloc: Global, words: &[String]) -> Result<GatewayArgs, ArgsError> {
-    let Some(given) = given_by(words) else {
-        return Err(ArgsError::OtherWords);
+/// Returns what the words ask for, or what is wrong with one of them.
+pub fn asked_by<'a>(alloc: Global, words: &'a [String]) -> Result<GatewayArgs, GatewayError<'a>> {
+    let given = given_by(words)?;
+    let Some(listen) = address_of(given.listen) else {
+        return Err(wrong("listen=", given.listen, "has to be IP:PORT"));
     };
-    let (Some(listen), Some(base)) = (address_of(given.listen), base_of(given.base)) else {
-        return Err(ArgsError::OtherWords);
+    let Some(base) = base_of(given.base) else {
+        return Err(wrong("base=", given.base, BASE));
     };
     let (calls, via) = calls_of(alloc, given.calls, given.via)?;
-    let Some(limit) = time_of(given.limit, 0) else {
-        return Err(ArgsError::OtherWords);
-    };
-    let Some(wait) = time_of(given.wait, USUAL_WAIT) else {
-        return Err(ArgsError::OtherWords);
-    };
-    let Some(again) = time_of(given.again, USUAL_AGAIN) else {
-        return Err(ArgsError::OtherWords);
-    };
+    let limit = time_of("limit=", given.limit, 0)?;
+    let wait = time_of("wait=", given.wait, USUAL_WAIT)?;
+    let again = time_of("again=", given.again, USUAL_AGAIN)?;
     let allow = allowed_by(alloc, given.allow)?;
     let shorts = shorts_of(alloc, given.shorts)?;
     let groups = groups_of(alloc, given.groups)?;
     if !have_ports(calls, &via, groups.len()) {
-        return Err(ArgsError::OtherWords);
+        return Err(wrong("calls=", given.calls, PORTS));
     }
     let Ok(base) = String::from_str(alloc, base) else {
-        return Err(ArgsError::NoMemory);
+        return Err(GatewayError::NoMemory);
     };
     Ok(GatewayArgs {
         listen,

@@ -25,12 +25,13 @@ mod service;
 mod serving;
 mod showing;
 mod starting;
+mod wrong_arg;
 
 use crate::agent::Platform;
-use crate::args::{asked_by, key_of};
+use crate::args::{GatewayError, asked_by, key_of};
 use crate::gateway::{Gateway, gateway_of};
 use crate::run::run_gateway;
-use program_args::{ArgsError, COMMIT, KIT, VERSION, is_version};
+use program_args::{COMMIT, KIT, VERSION, is_version};
 use std::alloc::Global;
 use std::env;
 use std::io::Read;
@@ -48,16 +49,21 @@ const USAGE: &str =
 const KEY: &str = "LRA_GATEWAY_KEY";
 
 /// Makes the gateway that the words ask for, with this key.
-fn asked_with(alloc: Global, words: &[String], key: &Key) -> Result<Gateway, ArgsError> {
+fn asked_with<'a>(
+    alloc: Global,
+    words: &'a [String],
+    key: &Key,
+) -> Result<Gateway, GatewayError<'a>> {
     let asked = asked_by(alloc, words)?;
     match gateway_of(alloc, asked, key) {
         Ok(gateway) => Ok(gateway),
-        Err(_) => Err(ArgsError::NoMemory),
+        Err(_) => Err(GatewayError::NoMemory),
     }
 }
 
 /// Runs a gateway until standard input ends, or prints which build this is. If the words ask for
-/// something else, or the environment has no key, prints the usage and ends with status 2.
+/// something else, or the environment has no key, prints what is wrong and the usage, and ends with
+/// status 2.
 fn main(rt: HostRuntime) -> ExitCode {
     let alloc = rt.alloc();
     let Ok(given) = env::args(&rt) else {
@@ -75,13 +81,15 @@ fn main(rt: HostRuntime) -> ExitCode {
         Err(_) => None,
     };
     let Some(key) = key else {
+        let _ = eprintln!(rt; "lra_gateway: {} has to be 64 hexadecimal digits", KEY);
         let _ = eprintln!(rt; "{}", USAGE);
         return ExitCode::from(2);
     };
     match asked_with(alloc, &words, &key) {
         Ok(gateway) => ExitCode::from(serve(&rt, alloc, &gateway, rt.reader())),
-        Err(ArgsError::NoMemory) => ExitCode::from(1),
-        Err(ArgsError::OtherWords) => {
+        Err(GatewayError::NoMemory) => ExitCode::from(1),
+        Err(GatewayError::Wrong(wrong)) => {
+            let _ = eprintln!(rt; "lra_gateway: {}", wrong);
             let _ = eprintln!(rt; "{}", USAGE);
             ExitCode::from(2)
         }

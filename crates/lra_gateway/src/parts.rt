@@ -1,5 +1,6 @@
 // Single words of the command line.
 
+use crate::wrong_arg::{GatewayError, wrong, wrong_unless_full};
 use node_sockets::Peer;
 use program_args::{ArgsError, host_of, number_of, peer_of, port_of};
 use std::alloc::Global;
@@ -26,36 +27,43 @@ pub(crate) fn address_of(text: &str) -> Option<SocketAddr> {
     }
 }
 
-/// Returns the number of milliseconds that a text states, or `usual` if there is no text. Returns
-/// `None` if the text is malformed.
-pub(crate) fn time_of(text: Option<&str>, usual: u64) -> Option<u64> {
+/// Returns the number of milliseconds that the text of an option states, or `usual` if there is no
+/// text.
+pub(crate) fn time_of<'a>(
+    name: &'static str,
+    text: Option<&'a str>,
+    usual: u64,
+) -> Result<u64, GatewayError<'a>> {
     let Some(text) = text else {
-        return Some(usual);
+        return Ok(usual);
     };
-    number_of(text)
+    match number_of(text) {
+        Some(time) => Ok(time),
+        None => Err(wrong(name, text, "MS has to be a number of milliseconds")),
+    }
 }
 
 /// Returns the address at which the gateway listens for nodes, and the one at which nodes reach it.
 /// If only a port is given, it listens on all IPv4 addresses, and nodes reach it over the loopback
 /// interface.
-pub(crate) fn calls_of(
+pub(crate) fn calls_of<'a>(
     alloc: Global,
-    calls: &str,
-    via: Option<&str>,
-) -> Result<(SocketAddr, Option<Peer>), ArgsError> {
+    calls: &'a str,
+    via: Option<&'a str>,
+) -> Result<(SocketAddr, Option<Peer>), GatewayError<'a>> {
     let Some(via) = via else {
         let Some(port) = port_of(calls) else {
-            return Err(ArgsError::OtherWords);
+            return Err(wrong("calls=", calls, "without via= it has to be a PORT"));
         };
         let address = SocketAddrV4::new(Ipv4Addr::UNSPECIFIED, port);
         return Ok((SocketAddr::V4(address), None));
     };
     let Some(address) = address_of(calls) else {
-        return Err(ArgsError::OtherWords);
+        return Err(wrong("calls=", calls, "with via= it has to be IP:PORT"));
     };
     match peer_of(alloc, via) {
         Ok(peer) => Ok((address, Some(peer))),
-        Err(fault) => Err(fault),
+        Err(fault) => Err(wrong_unless_full(fault, "via=", via, "has to be HOST:PORT")),
     }
 }
 
@@ -102,20 +110,27 @@ fn is_place(text: &str) -> bool {
 
 /// Returns the hosts that a text allows, separated by commas. If there is no text, any host is
 /// allowed.
-pub(crate) fn allowed_by(alloc: Global, text: Option<&str>) -> Result<Vec<String>, ArgsError> {
+pub(crate) fn allowed_by<'a>(
+    alloc: Global,
+    text: Option<&'a str>,
+) -> Result<Vec<String>, GatewayError<'a>> {
     let mut hosts = Vec::new(alloc);
     let Some(text) = text else {
         return Ok(hosts);
     };
     for host in text.split(',') {
         if !is_place(host) {
-            return Err(ArgsError::OtherWords);
+            return Err(wrong(
+                "allow=",
+                text,
+                "has to be HOST or HOST:PORT, with commas between several",
+            ));
         }
         let Ok(host) = String::from_str(alloc, host) else {
-            return Err(ArgsError::NoMemory);
+            return Err(GatewayError::NoMemory);
         };
         if hosts.push(host).is_err() {
-            return Err(ArgsError::NoMemory);
+            return Err(GatewayError::NoMemory);
         }
     }
     Ok(hosts)

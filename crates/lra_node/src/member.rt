@@ -8,7 +8,7 @@ use node_agenda::Keep;
 use node_server::LocalMembers;
 use node_threads::{Build, Wants};
 use node_worker::GroupName;
-use program_args::{ArgsError, COMMIT, KIT, MemberArgs, VERSION, asked_by, is_version};
+use program_args::{COMMIT, KIT, MemberArgs, MemberError, VERSION, asked_by, is_version};
 use std::alloc::Global;
 
 const USAGE: &str =
@@ -16,13 +16,6 @@ const USAGE: &str =
 
 /// How many milliseconds an answer waits for copies, if the words don't say it.
 const PATIENCE_MS: u64 = 1_000;
-
-/// The members that the words ask for, and the folder in which their journals lie.
-#[derive(Drop)]
-struct AskedMembers {
-    members: LocalMembers,
-    folder: String,
-}
 
 /// Makes the settings for copies: how many are wanted, how long an answer waits for them, and
 /// whether it is withheld after that.
@@ -90,27 +83,20 @@ fn members_from(asked: MemberArgs, build: Build) -> Option<(LocalMembers, String
     Some((members, folder))
 }
 
-/// Returns what the words ask for.
-fn given_by(alloc: Global, words: &[String]) -> Result<AskedMembers, ArgsError>
-    ensures { IfOk result (λ given. (1 ≤ vec_len given.members.peers)
-        × (vec_len given.members.peers ≤ MAX_NODES)) }
+/// Returns the members of this build that are asked for, and the folder in which their journals lie;
+/// `None` if memory ran out, or if the group's name is no such name, which `asked_by` has refused.
+fn built(alloc: Global, asked: MemberArgs) -> Option<(LocalMembers, String)>
+    ensures { IfSome result (λ made. made.0.peers ≡ asked.peers) }
 {
-    let asked = match asked_by(alloc, words) {
-        Ok(asked) => asked,
-        Err(fault) => return Err(fault),
-    };
     let Ok(build) = Build::said(alloc, VERSION, COMMIT, KIT) else {
-        return Err(ArgsError::NoMemory);
+        return None;
     };
-    let Some((members, folder)) = members_from(asked, build) else {
-        return Err(ArgsError::OtherWords);
-    };
-    Ok(AskedMembers { members, folder })
+    members_from(asked, build)
 }
 
 /// Returns the members that the words ask for, with the folder in which their journals lie. If there is
-/// nothing to run, it prints which build this is or the usage, and returns the exit status: 0 if the
-/// words ask for the version, 2 if they ask for nothing, 1 if memory ran out.
+/// nothing to run, it prints which build this is, or the wrong word and the usage, and returns the
+/// exit status: 0 if the words ask for the version, 2 if they ask for nothing, 1 if memory ran out.
 pub fn members_of(rt: &HostRuntime, words: &[String]) -> Result<(LocalMembers, String), u8>
     ensures { IfOk result (λ made. (1 ≤ vec_len made.0.peers) × (vec_len made.0.peers ≤ MAX_NODES)) }
 {
@@ -118,10 +104,11 @@ pub fn members_of(rt: &HostRuntime, words: &[String]) -> Result<(LocalMembers, S
         let _ = println!(rt; "lra_node {}, commit {}, {}", VERSION, COMMIT, KIT);
         return Err(0);
     }
-    match given_by(rt.alloc(), words) {
-        Ok(AskedMembers { members, folder }) => Ok((members, folder)),
-        Err(ArgsError::NoMemory) => Err(1),
-        Err(ArgsError::OtherWords) => {
+    match asked_by(rt.alloc(), words) {
+        Ok(asked) => built(rt.alloc(), asked).ok_or(1),
+        Err(MemberError::NoMemory) => Err(1),
+        Err(MemberError::Wrong(wrong)) => {
+            let _ = eprintln!(rt; "lra_node: {}", wrong);
             let _ = eprintln!(rt; "{}", USAGE);
             Err(2)
         }

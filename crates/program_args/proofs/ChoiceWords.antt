@@ -7,7 +7,8 @@ use Rattle.std.specs.declared.net.socket_addr.SocketAddr.{SocketAddr}
 use Rattle.std.proofs.NetLemmas.Theorems.{IsSocketText_unique}
 use Rattle.std.proofs.lemmas.Bool.Decides.{nat_tests}
 use Rattle.std.proofs.lemmas.Fmt.{decimal_injective}
-use Rattle.program_args.specs.Arguments.{IsListen, IsTime, Texts, flagged, has, said}
+use Rattle.program_args.specs.Arguments.{Choices, IsListen, IsTime, Mean, Texts, flagged, has, said}
+use Rattle.program_args.specs.Refusals.{HasChoices}
 use Rattle.program_args.specs.Readings.{IsNotFirst, IsNotSaid, IsUnnamed}
 
 behind : (name a b : List ℕ) → name ++ a ≡ name ++ b → a ≡ b
@@ -52,6 +53,17 @@ one_time None (Some a) b x y = absurd x
 one_time (Some text) None b x y = absurd x
 one_time (Some text) (Some a) None x y = absurd y
 one_time (Some text) (Some a) (Some b) x y = ap (λ n. Some n) (decimal_injective a b x.0 y.0 (sym x.1 ∙ y.1))
+
+-- texts mean one listen, operate, copies, patience and strict
+pub one_choices : (t texts : Texts) (a b : Choices) → t ≡ texts → Mean t a → Mean texts b → HasChoices b a
+one_choices t texts a b same of_t of_texts =
+    let here = subst (λ (x : Texts). Mean x a) same of_t in (
+      one_address texts.listen a.listen b.listen here.listen of_texts.listen,
+      one_address texts.operate a.operate b.operate here.operate of_texts.operate,
+      one_time texts.copies a.copies b.copies here.copies of_texts.copies,
+      one_time texts.patience a.patience b.patience here.patience of_texts.patience,
+      sym here.strict ∙ of_texts.strict,
+    )
 
 equal : (a b : ℕ) → a ≡ b → (a == b) ≡ true
 equal a b e = grind (arith, nat_tests)

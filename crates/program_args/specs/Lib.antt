@@ -1,2 +1,3 @@
 pub mod Arguments
 pub mod Readings
+pub mod Refusals

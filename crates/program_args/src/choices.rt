@@ -1,43 +1,49 @@
 // The options: the words between the folder and the addresses.
-ghost use Rattle.std.specs.Prelude.{◌≡◌, ℕ, List, Option, IfSome, IsSomeAnd, MatchOption, map, option_copied, string_bytes};
+ghost use Rattle.std.specs.Prelude.{◌≡◌, ℕ, List, Option, Some, MatchResult, option_copied};
 ghost use Rattle.std.specs.List.{list_all};
 ghost use Rattle.std.specs.declared.net.socket_addr.SocketAddr.{SocketAddr as TheAddress};
-ghost use Rattle.program_args.specs.Arguments.{Choices, IsGroup, IsListen, IsNames, IsTime, SayChoices, are_names, is_group_name, is_name_byte, is_names_byte};
-ghost use Rattle.program_args.specs.Readings.{IsUnnamed, chosen};
+ghost use Rattle.program_args.specs.Arguments.{IsGroup, IsListen, IsNames, IsTime, Mean, are_names, is_group_name, is_name_byte, is_names_byte};
+ghost use Rattle.program_args.specs.Readings.{chosen, texts_in};
+ghost use Rattle.program_args.specs.Refusals.{IsWrongText};
 
-use crate::member_texts::given_by;
+use crate::member_texts::MemberTexts;
 use crate::words::number_of;
+use crate::wrong_word::WrongWord;
 use std::net::SocketAddr;
 
-/// Reads the address of a text, if there is a text. Returns `None` if it is no socket address with
-/// a port.
-fn address_of(text: Option<&str>) -> Option<Option<SocketAddr>>
-    ensures { MatchOption result
-        ((address : Option TheAddress) → IsListen (option_copied text.entry) address → ⊥)
-        (λ address. IsListen (option_copied text.entry) address) }
+/// Reads the address of a text, if there is a text. Returns the text if it is no socket address
+/// with a port.
+fn address_of(text: Option<&str>) -> Result<Option<SocketAddr>, &str>
+    ensures { MatchResult result (λ address. IsListen (option_copied text.entry) address)
+        (λ wrong. (option_copied text.entry ≡ Some wrong.now)
+        × ((address : Option TheAddress) → IsListen (option_copied text.entry) address → ⊥)) }
 {
     let Some(text) = text else {
-        return Some(None);
+        return Ok(None);
     };
-    match text.parse::<SocketAddr>() {
-        Ok(address) if address.port() > 0 => Some(Some(address)),
-        _ => None,
+    let Ok(address) = text.parse::<SocketAddr>() else {
+        return Err(text);
+    };
+    if address.port() == 0 {
+        return Err(text);
     }
+    Ok(Some(address))
 }
 
-/// Reads the number of a text, such as milliseconds, if there is a text. Returns `None` if it is no
-/// number.
-fn time_of(text: Option<&str>) -> Option<Option<u64>>
-    ensures { MatchOption result ((time : Option ℕ) → IsTime (option_copied text.entry) time → ⊥)
-        (λ time. IsTime (option_copied text.entry) time) }
+/// Reads the number of a text, such as milliseconds, if there is a text. Returns the text if it is
+/// no number.
+fn time_of(text: Option<&str>) -> Result<Option<u64>, &str>
+    ensures { MatchResult result (λ time. IsTime (option_copied text.entry) time)
+        (λ wrong. (option_copied text.entry ≡ Some wrong.now)
+        × ((time : Option ℕ) → IsTime (option_copied text.entry) time → ⊥)) }
 {
     let Some(text) = text else {
-        return Some(None);
+        return Ok(None);
     };
     let Some(time) = number_of(text) else {
-        return None;
+        return Err(text);
     };
-    Some(Some(time))
+    Ok(Some(time))
 }
 
 fn is_name_byte(byte: u8) -> bool
@@ -86,37 +92,37 @@ fn is_group_name(text: &str) -> bool
     are_name_bytes(bytes)
 }
 
-/// Returns the list of names in a text, empty if there is no text; `None` if the text is no such
-/// list.
-fn names_of(text: Option<&str>) -> Option<&str>
-    ensures { MatchOption result ((names : List ℕ) → IsNames (option_copied text.entry) names → ⊥)
-        (λ names. IsNames (option_copied text.entry) names.now) }
+/// Returns the list of names in a text, empty if there is no text; the text if it is no such list.
+fn names_of(text: Option<&str>) -> Result<&str, &str>
+    ensures { MatchResult result (λ names. IsNames (option_copied text.entry) names.now)
+        (λ wrong. (option_copied text.entry ≡ Some wrong.now)
+        × ((names : List ℕ) → IsNames (option_copied text.entry) names → ⊥)) }
 {
     let Some(names) = text else {
-        return Some("");
+        return Ok("");
     };
     if !are_names(names) {
-        return None;
+        return Err(names);
     }
-    Some(names)
+    Ok(names)
 }
 
-/// Returns the group's name, if there is one; `None` if it is no such name.
-fn group_of(text: Option<&str>) -> Option<Option<&str>>
-    ensures { MatchOption result
-        ((group : Option (List ℕ)) → IsGroup (option_copied text.entry) group → ⊥)
-        (λ group. IsGroup (option_copied text.entry) (option_copied group)) }
+/// Returns the group's name, if there is one; the text if it is no such name.
+fn group_of(text: Option<&str>) -> Result<Option<&str>, &str>
+    ensures { MatchResult result (λ group. IsGroup (option_copied text.entry) (option_copied group))
+        (λ wrong. (option_copied text.entry ≡ Some wrong.now)
+        × ((group : Option (List ℕ)) → IsGroup (option_copied text.entry) group → ⊥)) }
 {
     let Some(name) = text else {
-        return Some(None);
+        return Ok(None);
     };
     if !is_group_name(name) {
-        return None;
+        return Err(name);
     }
-    Some(Some(name))
+    Ok(Some(name))
 }
 
-/// The options, and the words with the addresses.
+/// The options.
 #[derive(Clone, Copy)]
 pub(crate) struct Chosen<'a> {
     pub listen: Option<SocketAddr>,
@@ -129,45 +135,46 @@ pub(crate) struct Chosen<'a> {
     pub patience: Option<u64>,
     pub strict: bool,
     pub anew: bool,
-    pub addresses: &'a [String],
 }
 
-/// Reads the options from the words that follow the folder; `None` if one is malformed.
-pub(crate) fn choices_of(words: &[String]) -> Option<Chosen<'_>>
-    ensures one { (choices : Choices) (addresses : List (List ℕ)) → IsUnnamed addresses →
-        SayChoices (map string_bytes words.now) choices addresses →
-        IsSomeAnd result (λ it. (it.listen ≡ choices.listen) × (it.operate ≡ choices.operate)
-        × (it.copies ≡ choices.copies) × (it.patience ≡ choices.patience) × (it.strict ≡ choices.strict)
-        × (map string_bytes it.addresses.now ≡ addresses)) }
-    ensures are { IfSome result
-        (λ it. SayChoices (map string_bytes words.now) (chosen it) (map string_bytes it.addresses.now)) }
+/// Returns what the texts of the options mean, or the first text that means nothing.
+pub(crate) fn choices_of<'a>(given: MemberTexts<'a>) -> Result<Chosen<'a>, WrongWord<'a>>
+    ensures { MatchResult result (λ it. Mean (texts_in given.entry) (chosen it))
+        (λ wrong. IsWrongText (texts_in given.entry) wrong) }
 {
-    let given = given_by(words);
-    let Some(listen) = address_of(given.listen) else {
-        return None;
+    let listen = match address_of(given.listen) {
+        Ok(listen) => listen,
+        Err(text) => return Err(WrongWord::Listen(text)),
     };
-    let Some(operate) = address_of(given.operate) else {
-        return None;
+    let operate = match address_of(given.operate) {
+        Ok(operate) => operate,
+        Err(text) => return Err(WrongWord::Operate(text)),
     };
-    let Some(names) = names_of(given.names) else {
-        return None;
+    let names = match names_of(given.names) {
+        Ok(names) => names,
+        Err(text) => return Err(WrongWord::Names(text)),
     };
-    let Some(ended) = time_of(given.ended) else {
-        return None;
+    let ended = match time_of(given.ended) {
+        Ok(ended) => ended,
+        Err(text) => return Err(WrongWord::Keep(text)),
     };
-    let Some(failed) = time_of(given.failed) else {
-        return None;
+    let failed = match time_of(given.failed) {
+        Ok(failed) => failed,
+        Err(text) => return Err(WrongWord::KeepFailed(text)),
     };
-    let Some(group) = group_of(given.group) else {
-        return None;
+    let group = match group_of(given.group) {
+        Ok(group) => group,
+        Err(text) => return Err(WrongWord::Group(text)),
     };
-    let Some(copies) = time_of(given.copies) else {
-        return None;
+    let copies = match time_of(given.copies) {
+        Ok(copies) => copies,
+        Err(text) => return Err(WrongWord::Copies(text)),
     };
-    let Some(patience) = time_of(given.patience) else {
-        return None;
+    let patience = match time_of(given.patience) {
+        Ok(patience) => patience,
+        Err(text) => return Err(WrongWord::Patience(text)),
     };
-    Some(Chosen {
+    Ok(Chosen {
         listen,
         operate,
         names,
@@ -178,6 +185,5 @@ pub(crate) fn choices_of(words: &[String]) -> Option<Chosen<'_>>
         patience,
         strict: given.strict,
         anew: given.anew,
-        addresses: given.addresses,
     })
 }

@@ -1,16 +1,18 @@
 // What the words of the command line ask for.
-ghost use Rattle.std.specs.Prelude.{◌≡◌, ◌≢◌, ◌≤◌, ◌<◌, ◌+◌, ℕ, List, Option, Some, None, IfOk, IfSome, IsSomeAnd, MatchBool, MatchOption, MatchResult, map, option_copied, option_map, string_bytes, vec_len};
+ghost use Rattle.std.specs.Prelude.{◌≡◌, ◌≢◌, ◌≤◌, ◌<◌, ◌+◌, ℕ, List, Option, Some, None, IfErr, IfOk, IfSome, IsOkAnd, MatchBool, MatchOption, MatchResult, length, map, option_copied, option_map, string_bytes, vec_len};
 ghost use Rattle.std.specs.List.{AllPairs, Contains};
 ghost use Rattle.state_ids.specs.declared.TheConstants.{MAX_NODES};
-ghost use Rattle.program_args.specs.Arguments.{AskMembers, AskNodes, Choices, HaveCopies, HavePorts, SayPeers, SaysNodes, choices_of, reached};
-ghost use Rattle.program_args.specs.Readings.{IsOneOrTwo, IsUnnamed, chosen};
-ghost use Rattle.program_args.specs.declared.words.ArgsError.TheVariants as unasked;
+ghost use Rattle.program_args.specs.Arguments.{AskMembers, AskNodes, Choices, HaveCopies, HavePorts, Mean, SayPeers, SaysNodes, choices_of, reached};
+ghost use Rattle.program_args.specs.Readings.{IsOneOrTwo, IsUnnamed, chosen, texts_in};
+ghost use Rattle.program_args.specs.Refusals.{AreParts, Fit, HasChoices, IsMisfit, IsTwice, IsWrong, IsWrongAddress, IsWrongCopies, IsWrongGroup, OnWrong};
 
 use crate::choices::{Chosen, choices_of};
+use crate::member_texts::{MemberTexts, given_by};
 use crate::words::{ArgsError, peer_of};
+use crate::wrong_word::{WrongWord, not_address};
 use node_sockets::Peer;
 use state_ids::MAX_NODES;
-use std::alloc::Global;
+use std::alloc::{AllocError, Global};
 use std::net::SocketAddr;
 
 /// The members that the words ask for: the first and the last node, the folder with their journals,
@@ -39,6 +41,13 @@ pub struct MemberArgs {
     /// Whether the node waits at its start until it has heard from all others.
     pub anew: bool,
     pub peers: Vec<Peer>,
+}
+
+/// Why there are no members: a word is wrong, or memory was refused.
+#[derive(Clone, Copy, Debug)]
+pub enum MemberError<'a> {
+    Wrong(WrongWord<'a>),
+    NoMemory,
 }
 
 /// Returns the bytes by which a word names nodes: one byte, or two separated by a hyphen.
@@ -132,48 +141,121 @@ fn is_group(first: u8, last: u8, listen: Option<SocketAddr>, count: usize) -> bo
 /// The words of a command line, taken apart.
 #[derive(Clone, Copy)]
 struct Reading<'a> {
+    nodes: &'a str,
     first: u8,
     last: u8,
-    choices: Chosen<'a>,
     folder: &'a str,
+    given: MemberTexts<'a>,
+    choices: Chosen<'a>,
 }
 
 /// Returns what the words ask for, except the addresses.
-fn reading_of(words: &[String]) -> Option<Reading<'_>>
+fn reading_of(words: &[String]) -> Result<Reading<'_>, WrongWord<'_>>
+    ensures are { MatchResult result (λ it. AreParts (map string_bytes words.now) it.nodes.now it.first it.last it.folder.now
+        (texts_in it.given) (map string_bytes it.given.addresses.now) × Mean (texts_in it.given) (chosen it.choices))
+        (λ wrong. IsWrong (map string_bytes words.now) wrong) }
     ensures one { (first last : ℕ) (choices : Choices) (folder : List ℕ) (addresses : List (List ℕ)) →
         IsUnnamed addresses → AskNodes (map string_bytes words.now) first last choices folder addresses →
-        IsSomeAnd result (λ it. map string_bytes it.choices.addresses.now ≡ addresses) }
-    ensures are { IfSome result (λ it. AskNodes (map string_bytes words.now) it.first it.last (chosen it.choices)
-        it.folder.now (map string_bytes it.choices.addresses.now)) }
+        IsOkAnd result (λ it. (it.first ≡ first) × (it.last ≡ last) × HasChoices choices (chosen it.choices)
+        × (map string_bytes it.given.addresses.now ≡ addresses)) }
 {
     let Some((nodes, rest)) = words.split_first() else {
-        return None;
-    };
-    let Some((folder, rest)) = rest.split_first() else {
-        return None;
+        return Err(WrongWord::NoNodes);
     };
     let Some((first, last)) = nodes_of(nodes.as_bytes()) else {
-        return None;
+        return Err(WrongWord::Nodes(nodes.as_str()));
     };
-    let Some(choices) = choices_of(rest) else {
-        return None;
+    let Some((folder, rest)) = rest.split_first() else {
+        return Err(WrongWord::NoFolder);
     };
-    if !is_group(first, last, choices.listen, choices.addresses.len()) {
-        return None;
-    }
-    if !have_ports(first, last, choices.operate) {
-        return None;
-    }
-    let (nodes, copies) = (choices.addresses.len(), choices.copies);
-    if !have_copies(first, last, nodes, copies, choices.patience, choices.strict) {
-        return None;
-    }
-    Some(Reading {
+    let given = given_by(rest);
+    let choices = match choices_of(given) {
+        Ok(choices) => choices,
+        Err(wrong) => return Err(wrong),
+    };
+    Ok(Reading {
+        nodes: nodes.as_str(),
         first,
         last,
-        choices,
         folder: folder.as_str(),
+        given,
+        choices,
     })
+}
+
+/// Returns why the nodes can't be run together.
+fn wrong_group<'a>(reading: Reading<'a>) -> WrongWord<'a>
+    requires means { Mean (texts_in reading.given) (chosen reading.choices) }
+    requires apart { (reading.last ≤ length reading.given.addresses.now)
+        × (length reading.given.addresses.now ≤ MAX_NODES)
+        × (reading.first < reading.last → reading.choices.listen ≡ None) → ⊥ }
+    ensures { IsWrongGroup reading.entry.nodes.now reading.entry.first reading.entry.last
+        (texts_in reading.entry.given) (map string_bytes reading.entry.given.addresses.now) result }
+{
+    let count = reading.given.addresses.len();
+    if count == 0 {
+        return WrongWord::NoAddresses;
+    }
+    if count > usize::from(MAX_NODES) {
+        return WrongWord::NinthNode(reading.given.addresses[usize::from(MAX_NODES)].as_str());
+    }
+    if usize::from(reading.last) > count {
+        return WrongWord::NoSuchNode(reading.nodes);
+    }
+    WrongWord::SharedListen(reading.given.listen.unwrap_or(""))
+}
+
+/// Returns why the options for copies don't fit so many nodes.
+fn wrong_copies<'a>(reading: Reading<'a>, nodes: usize) -> WrongWord<'a>
+    requires means { Mean (texts_in reading.given) (chosen reading.choices) }
+    requires unfit { HaveCopies reading.first reading.last nodes reading.choices.copies
+        reading.choices.patience reading.choices.strict → ⊥ }
+    ensures { IsWrongCopies reading.entry.first reading.entry.last nodes (texts_in reading.entry.given)
+        (chosen reading.entry.choices) result }
+{
+    let Some(count) = reading.choices.copies else {
+        return match reading.given.patience {
+            Some(text) => WrongWord::PatienceAlone(text),
+            None => WrongWord::StrictAlone,
+        };
+    };
+    let text = reading.given.copies.unwrap_or("");
+    if count >= nodes as u64 {
+        return WrongWord::FewNodes(text);
+    }
+    WrongWord::SharedCopies(text)
+}
+
+/// Returns why the options don't fit the nodes, if they don't.
+fn misfit_of<'a>(reading: Reading<'a>) -> Option<WrongWord<'a>>
+    requires { Mean (texts_in reading.given) (chosen reading.choices) }
+    ensures { MatchOption result (Fit reading.entry.first reading.entry.last (chosen reading.entry.choices)
+        (map string_bytes reading.entry.given.addresses.now))
+        (λ wrong. (Fit reading.entry.first reading.entry.last (chosen reading.entry.choices)
+        (map string_bytes reading.entry.given.addresses.now) → ⊥)
+        × IsMisfit reading.entry.nodes.now reading.entry.first reading.entry.last (texts_in reading.entry.given)
+        (chosen reading.entry.choices) (map string_bytes reading.entry.given.addresses.now) wrong) }
+{
+    let (first, last) = (reading.first, reading.last);
+    let choices = reading.choices;
+    let nodes = reading.given.addresses.len();
+    if !is_group(first, last, choices.listen, nodes) {
+        return Some(wrong_group(reading));
+    }
+    if !have_ports(first, last, choices.operate) {
+        return Some(WrongWord::NoPorts(reading.given.operate.unwrap_or("")));
+    }
+    if !have_copies(
+        first,
+        last,
+        nodes,
+        choices.copies,
+        choices.patience,
+        choices.strict,
+    ) {
+        return Some(wrong_copies(reading, nodes));
+    }
+    None
 }
 
 /// Whether a word stands among some words.
@@ -189,79 +271,88 @@ fn stands_in(word: &str, words: &[String]) -> bool
     false
 }
 
-/// Whether no word stands twice.
-fn are_once(words: &[String]) -> bool
-    ensures { MatchBool result (AllPairs (λ v w. v ≢ w) (map string_bytes words.now))
-        (AllPairs (λ v w. v ≢ w) (map string_bytes words.now) → ⊥) }
+/// Returns the first word that stands twice.
+fn twice_in(words: &[String]) -> Option<&str>
+    ensures { MatchOption result (AllPairs (λ v w. v ≢ w) (map string_bytes words.now))
+        (λ word. IsTwice (map string_bytes words.now) word.now
+        × (AllPairs (λ v w. v ≢ w) (map string_bytes words.now) → ⊥)) }
 {
     for place in 0..words.len() {
-        if stands_in(words[place].as_str(), &words[..place]) {
-            return false;
+        let word = words[place].as_str();
+        if stands_in(word, &words[..place]) {
+            return Some(word);
         }
     }
-    true
+    None
 }
 
 /// Returns the addresses that the words name. All of them differ.
-fn peers_of(alloc: Global, words: &[String]) -> Result<Vec<Peer>, ArgsError>
+fn peers_of<'a>(alloc: Global, words: &'a [String]) -> Result<Vec<Peer>, MemberError<'a>>
     ensures { MatchResult result (λ peers. SayPeers (map string_bytes words.now) (map reached peers.items))
-        (λ fault. fault ≡ unasked.OtherWords → (peers : List (List ℕ × ℕ)) →
-        SayPeers (map string_bytes words.now) peers → ⊥) }
+        (λ fault. OnWrong fault (λ wrong. IsWrongAddress (map string_bytes words.now) wrong
+        × ((peers : List (List ℕ × ℕ)) → SayPeers (map string_bytes words.now) peers → ⊥))) }
 {
-    if !are_once(words) {
-        return Err(ArgsError::OtherWords);
-    }
     let mut peers = Vec::new(alloc);
     for word in words {
-        match peer_of(alloc, word.as_str()) {
+        let word = word.as_str();
+        match peer_of(alloc, word) {
             Ok(peer) => {
                 if peers.push(peer).is_err() {
-                    return Err(ArgsError::NoMemory);
+                    return Err(MemberError::NoMemory);
                 }
             }
-            Err(fault) => return Err(fault),
+            Err(ArgsError::OtherWords) => return Err(MemberError::Wrong(not_address(word))),
+            Err(ArgsError::NoMemory) => return Err(MemberError::NoMemory),
         }
+    }
+    if let Some(word) = twice_in(words) {
+        return Err(MemberError::Wrong(WrongWord::Twice(word)));
     }
     Ok(peers)
 }
 
 /// Copies a text, if there is one.
-fn own(alloc: Global, text: Option<&str>) -> Result<Option<String>, ArgsError>
-    ensures { MatchResult result (λ own. option_map string_bytes own ≡ option_copied text.entry)
-        (λ fault. fault ≡ unasked.NoMemory) }
+fn own(alloc: Global, text: Option<&str>) -> Result<Option<String>, AllocError>
+    ensures { IfOk result (λ own. option_map string_bytes own ≡ option_copied text.entry) }
 {
     let Some(text) = text else {
         return Ok(None);
     };
     match String::from_str(alloc, text) {
         Ok(own) => Ok(Some(own)),
-        Err(_) => Err(ArgsError::NoMemory),
+        Err(_) => Err(AllocError),
     }
 }
 
-/// Returns the members that the words ask for.
-pub fn asked_by(alloc: Global, words: &[String]) -> Result<MemberArgs, ArgsError>
+/// Returns the members that the words ask for, or the word that is wrong. It looks at the nodes, the
+/// folder, the options, the addresses, and last at whether the options fit the nodes.
+pub fn asked_by<'a>(alloc: Global, words: &'a [String]) -> Result<MemberArgs, MemberError<'a>>
     ensures asks { MatchResult result (λ asked. AskMembers (map string_bytes words.now) asked.first asked.last
         (choices_of asked) (map reached asked.peers.items) (string_bytes asked.folder))
-        (λ fault. fault ≡ unasked.OtherWords → (first last : ℕ) (choices : Choices) (peers : List (List ℕ × ℕ))
-        (folder : List ℕ) → AskMembers (map string_bytes words.now) first last choices peers folder → ⊥) }
+        (λ fault. OnWrong fault (λ _. (first last : ℕ) (choices : Choices) (peers : List (List ℕ × ℕ))
+        (folder : List ℕ) → AskMembers (map string_bytes words.now) first last choices peers folder → ⊥)) }
+    ensures wrong { IfErr result (λ fault. OnWrong fault (λ wrong. IsWrong (map string_bytes words.now) wrong)) }
     ensures few { IfOk result (λ asked. (1 ≤ vec_len asked.peers) × (vec_len asked.peers ≤ MAX_NODES)) }
 {
-    let Some(reading) = reading_of(words) else {
-        return Err(ArgsError::OtherWords);
+    let reading = match reading_of(words) {
+        Ok(reading) => reading,
+        Err(wrong) => return Err(MemberError::Wrong(wrong)),
     };
-    let peers = match peers_of(alloc, reading.choices.addresses) {
+    let peers = match peers_of(alloc, reading.given.addresses) {
         Ok(peers) => peers,
         Err(fault) => return Err(fault),
     };
+    if let Some(wrong) = misfit_of(reading) {
+        return Err(MemberError::Wrong(wrong));
+    }
     let Ok(folder) = String::from_str(alloc, reading.folder) else {
-        return Err(ArgsError::NoMemory);
+        return Err(MemberError::NoMemory);
     };
     let Ok(names) = String::from_str(alloc, reading.choices.names) else {
-        return Err(ArgsError::NoMemory);
+        return Err(MemberError::NoMemory);
     };
     let Ok(group) = own(alloc, reading.choices.group) else {
-        return Err(ArgsError::NoMemory);
+        return Err(MemberError::NoMemory);
     };
     Ok(MemberArgs {
         first: reading.first,

@@ -37,7 +37,7 @@ pub fn port_of(word: &str) -> Option<u16>
     Some(number as u16)
 }
 
-fn has(text: &str, byte: u8) -> bool
+pub(crate) fn has(text: &str, byte: u8) -> bool
     ensures { result ≡ has byte text.now }
 {
     text.as_bytes().contains(&byte)
