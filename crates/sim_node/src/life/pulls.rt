@@ -52,8 +52,11 @@ impl<R: Runs> Life<R> {
             from,
             front: *front,
         };
-        if let Some(place) = self.awaited.iter().position(|other| *other == one) {
-            let _gone = self.awaited.remove(place);
+        match self.awaited.iter().position(|other| *other == one) {
+            Some(place) if place < self.awaited.len() => {
+                let _gone = self.awaited.remove(place);
+            }
+            _ => {}
         }
     }
 
