@@ -205,4 +205,13 @@ impl<R: Runs> Play<R> {
         let reply = self.call(place, caller, Call::Command(command))?;
         self.tell(texts::of_asked(self.alloc, me, &said, &reply)?)
     }
+
+    /// Lets a client send a node a command in the middle of another call.
+    pub fn ask_between(&mut self, place: usize) -> Result<(), Halt> {
+        let command = self.some_command(place)?;
+        let (me, said) = (self.me(place)?, texts::of_command(self.alloc, &command)?);
+        let caller = self.luck.place(3).saturating_add(1);
+        let reply = self.call_between(place, caller, Call::Command(command))?;
+        self.tell(texts::of_asked(self.alloc, me, &said, &reply)?)
+    }
 }

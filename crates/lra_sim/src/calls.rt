@@ -28,9 +28,48 @@ impl<R: Runs> Play<R> {
     }
 
     /// Makes a call of a thread of a node. Returns no reply if the node isn't up, holds the call
-    /// back, or stops. Another call may come between its beginning and the call itself.
+    /// back, or stops. Another call may come between its beginning and the call itself, and another
+    /// between the call and its end.
     pub fn call(&mut self, place: usize, caller: usize, call: Call) -> Result<Option<Reply>, Halt> {
-        let asked = CallSummary::of(&call)?;
+        let Some((asked, step)) = self.begin_asked(place, caller, &call)? else {
+            return Ok(None);
+        };
+        self.fall_into(place, caller > 0)?;
+        let Some((reply, own)) = self.make_begun(place, caller, call, asked, step)? else {
+            return Ok(None);
+        };
+        if !matches!(step, CallStep::Other) {
+            self.fall_into(place, caller > 0)?;
+        }
+        self.end_step(place, caller, step, own, &reply)?;
+        Ok(Some(reply))
+    }
+
+    /// Makes a call that comes in the middle of another one of the same node.
+    pub fn call_between(
+        &mut self,
+        place: usize,
+        caller: usize,
+        call: Call,
+    ) -> Result<Option<Reply>, Halt> {
+        let Some((asked, step)) = self.begin_asked(place, caller, &call)? else {
+            return Ok(None);
+        };
+        let Some((reply, own)) = self.make_begun(place, caller, call, asked, step)? else {
+            return Ok(None);
+        };
+        self.end_step(place, caller, step, own, &reply)?;
+        Ok(Some(reply))
+    }
+
+    /// Begins a call, unless it is held back.
+    fn begin_asked(
+        &mut self,
+        place: usize,
+        caller: usize,
+        call: &Call,
+    ) -> Result<Option<(CallSummary, CallStep)>, Halt> {
+        let asked = CallSummary::of(call)?;
         if self.is_refused(place, caller, &asked) {
             return Ok(None);
         }
@@ -41,23 +80,24 @@ impl<R: Runs> Play<R> {
             self.see_mounted(place)?;
         }
         let step = self.begin_step(place, caller, &asked);
-        self.fall_into(place, caller > 0)?;
-        self.call_within(place, caller, call, asked, step)
+        Ok(Some((asked, step)))
     }
 
-    /// Makes a call that has begun.
-    fn call_within(
+    /// Makes a call that has begun, and records its reply. Returns the reply, and how many facts of
+    /// the node it may show.
+    fn make_begun(
         &mut self,
         place: usize,
         caller: usize,
         call: Call,
         asked: CallSummary,
         step: CallStep,
-    ) -> Result<Option<Reply>, Halt> {
+    ) -> Result<Option<(Reply, u64)>, Halt> {
         match self.make(place, caller, call, &asked) {
             Ok(Some(reply)) => {
-                self.end_call_of(place, caller, asked, step, &reply)?;
-                Ok(Some(reply))
+                self.enter_reply(place, asked, &reply)?;
+                let own = self.front(place)?.count(self.me(place)?);
+                Ok(Some((reply, own)))
             }
             Ok(None) => {
                 self.give_up_step(place, step, None);
@@ -69,24 +109,6 @@ impl<R: Runs> Play<R> {
                 Ok(None)
             }
         }
-    }
-
-    /// Records that a call was made and is over. Another call may come in between.
-    fn end_call_of(
-        &mut self,
-        place: usize,
-        caller: usize,
-        asked: CallSummary,
-        step: CallStep,
-        reply: &Reply,
-    ) -> Result<(), Halt> {
-        self.enter_reply(place, asked, reply)?;
-        let own = self.front(place)?.count(self.me(place)?);
-        match step {
-            CallStep::Enters | CallStep::Asks(_) => self.fall_into(place, caller > 0)?,
-            CallStep::Other => {}
-        }
-        self.end_step(place, caller, step, own, reply)
     }
 
     /// Handles the refusal of a call: the journal failed, or the run is full. It may have no other

@@ -20,6 +20,12 @@ impl<R: Runs> Play<R> {
         }
     }
 
+    /// Asks for the first page in the middle of another call, and checks it.
+    pub fn look_between(&mut self, place: usize) -> Result<(), Halt> {
+        let reply = self.call_between(place, 1, Call::Page(None))?;
+        self.see_listed(place, &reply)
+    }
+
     fn see_listed(&self, place: usize, reply: &Option<Reply>) -> Result<(), Halt> {
         match self.nodes.get(place) {
             Some(node) => node.see_listed(reply),

@@ -32,8 +32,6 @@ struct Answer {
 pub struct Copies {
     luck: Luck,
     wants: Wants,
-    /// Whether another call is made in the middle of a call.
-    is_between: bool,
     /// The nodes, by their places, that somebody asked in another node's name since they started,
     /// as if that node had more facts than there are.
     misled: Vec<usize>,
@@ -88,7 +86,6 @@ impl Copies {
         Ok(Copies {
             luck,
             wants,
-            is_between: false,
             misled: Vec::new(alloc),
             answers: Vec::new(alloc),
             had,
@@ -228,18 +225,14 @@ impl<R: Runs> Play<R> {
     /// something unless the reply of the call is compared with the facts once the call is over.
     pub fn fall_into(&mut self, place: usize, may_store: bool) -> Result<(), Halt> {
         let copies = &mut self.copies;
-        if self.is_quiet || copies.is_between || !copies.wants.any() || !copies.luck.is_one_in(4) {
+        if self.is_quiet || !copies.wants.any() || !copies.luck.is_one_in(4) {
             return Ok(());
         }
-        let stores = may_store && !copies.luck.is_one_in(3);
-        copies.is_between = true;
-        let came = if stores {
-            self.ask_client(place)
+        if may_store && !copies.luck.is_one_in(3) {
+            self.ask_between(place)
         } else {
-            self.look(place)
-        };
-        self.copies.is_between = false;
-        came
+            self.look_between(place)
+        }
     }
 
     /// Records that a call is over, with this reply. The answer of a worker may wait from now on.
