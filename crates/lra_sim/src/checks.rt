@@ -4,6 +4,7 @@ use crate::play::{Play, nowhere};
 use sim_env::Halt;
 use sim_runs::Runs;
 use state_book::{Call, Reply};
+use state_facts::Refusal;
 use state_ids::LraId;
 
 impl<R: Runs> Play<R> {
@@ -54,9 +55,22 @@ impl<R: Runs> Play<R> {
         }
     }
 
-    /// Checks that a node's record of an LRA is what its facts demand.
+    /// Whether a node shows an LRA.
+    fn is_shown(&self, place: usize, id: LraId) -> bool {
+        match self.nodes.get(place) {
+            Some(node) => node.known.shown().iter().any(|shown| shown.id == id),
+            None => false,
+        }
+    }
+
+    /// Checks that a node's record of an LRA is what its facts demand: none, if a call that came in
+    /// between purged the LRA.
     fn look_at(&mut self, place: usize, id: LraId) -> Result<(), Halt> {
         let reply = self.call(place, 2, Call::Record(id))?;
+        let is_gone = matches!(&reply, Some(Reply::Refused(Refusal::NotHeld)));
+        if is_gone && !self.is_shown(place, id) {
+            return Ok(());
+        }
         match self.nodes.get(place) {
             Some(node) => node.see_held(id, &reply),
             None => Err(nowhere()),
