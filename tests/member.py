@@ -148,6 +148,135 @@ OTHER_WORDS: list[tuple[str, str]] = [
 ]
 
 
+def begun_at_once(group: Group, node: int) -> tuple[str, float]:
+    """Starts a node, and begins an LRA there as soon as it accepts a connection. Returns the LRA, and how long the
+    answer took."""
+    group.run(node)
+    end = time.monotonic() + SLOW
+    while time.monotonic() < end:
+        asked = time.monotonic()
+        try:
+            return group.begin(node), time.monotonic() - asked
+        except ConnectionRefusedError:
+            time.sleep(0.002)
+    raise SystemExit(f"node {node} doesn't start: {group.log(node)}")
+
+
+def serve_bytes(listener: socket.socket, answers: list[bytes]) -> None:
+    """Answers each connection with the next of some byte strings, whatever it asks, until the listener is closed."""
+    i = 0
+    while True:
+        try:
+            connection, _ = listener.accept()
+        except OSError:
+            return
+        with connection:
+            connection.settimeout(1)
+            try:
+                connection.recv(65536)
+                connection.sendall(answers[i % len(answers)])
+            except OSError:
+                pass
+        i += 1
+
+
+def with_length(body: bytes, length: int | None = None) -> bytes:
+    """Returns an answer that states a length."""
+    stated = len(body) if length is None else length
+    return f"HTTP/1.1 200 OK\r\nContent-Length: {stated}\r\nConnection: close\r\n\r\n".encode() + body
+
+
+def slow_participant(port: int = 0) -> Participant:
+    """Makes a server of participants. Those at /slow answer 503, since they report their outcomes by themselves."""
+    part = Participant(port)
+    part.answers["/slow"] = 503
+    return part
+
+
+def killed_once(group: Group, which: tuple[int, ...], dice: random.Random) -> tuple[str, dict[str, object]]:
+    """Kills nodes under load, starts them again, and checks what is there. Returns what the load was, and what is
+    wrong."""
+    part = slow_participant()
+    load = Load(group, dice, lambda _: part)
+    comes_to(SLOW, lambda: len(load.noted) > 9)
+    time.sleep(dice.uniform(0, 0.5))
+    group.kill(*which)
+    time.sleep(dice.choice((0, 0.3)))
+    group.start(*which)
+    time.sleep(0.2)
+    load.stop()
+    wrong: dict[str, object] = {"lost": list(lost(group, load.noted))}
+    told = load.told()
+    for lra, status in group.shown_at_home().items():
+        if status == "Active":
+            group.finish(home_of(lra), lra, "cancel")
+    comes_to(SLOW, lambda: all(group.shown_at_home()[lra] in ENDED for lra in told))
+    wrong["unheard"] = [lra for lra, status in group.shown_at_home().items() if lra in told and status not in ENDED]
+    part.answers["/slow"] = 200
+    comes_to(SLOW, lambda: set(group.shown_at_home().values()) <= ENDED)
+    ended = group.shown_at_home()
+    wrong["not alike"] = not comes_to(SLOW, group.are_alike)
+    wrong["misled"] = list(misled(part, load.noted, ended))
+    wrong["not ended"] = sorted(set(ended.values()) - ENDED)
+    part.close()
+    return f"{len(load.noted)} LRAs, {len(told)} outcomes reported", {what: seen for what,
+                                                                      seen in wrong.items() if seen}
+
+
+def purge_all(group: Group) -> dict[str, str]:
+    """Purges all LRAs, and returns those that are still there."""
+    with concurrent.futures.ThreadPoolExecutor(6) as pool:
+        list(pool.map(lambda lra: group.purge(home_of(lra), lra), group.shown_at_home()))
+    return group.shown_at_home()
+
+
+class Flow:
+    """LRAs that go through a home, which may be full."""
+
+    def __init__(self, group: Group) -> None:
+        self.group, self.part = group, Participant()
+        self.refusals: list[str | None] = []
+
+    def begin(self, body: Json) -> str:
+        """Begins an LRA, as soon as there is room."""
+        while True:
+            code, answer = self.group.ask(1, "POST", "/lra", body)
+            if code == 201:
+                return answer["lra"]
+            self.refusals.append(answer.get("refused"))
+            time.sleep(0.02)
+
+    def one(self, i: int) -> tuple[str, int]:
+        """Begins and closes an LRA. One in ten has a participant and a listener, and one in ten has another LRA nested
+        in it."""
+        lra, url = self.begin({}), self.part.url
+        if i % 10 == 1:
+            self.group.join(1, lra, compensate=f"{url}/c", complete=f"{url}/k", after=f"{url}/a")
+        if i % 10 == 2:
+            nested = self.begin({"parent": lra})
+            self.group.join(1, nested, compensate=f"{url}/c", forget=f"{url}/f")
+            self.group.finish(1, nested)
+        return lra, self.group.finish(1, lra)
+
+
+def move(files: Iterable[str], folder: str) -> None:
+    os.makedirs(folder, exist_ok=True)
+    for file in files:
+        shutil.move(file, folder)
+
+
+class Strange(Group):
+    """Seven nodes, of which only 1, 2 and 7 are members. Node 4 has a name that doesn't resolve, and node 7 is
+    configured as the first of two nodes."""
+
+    def __init__(self, count: int, folder: str, *options: str) -> None:
+        super().__init__(count, folder, *options)
+        self.addresses[3] = "no-such-host.invalid:1"
+
+    def addresses_for(self, number: int) -> list[str]:
+        return [self.addresses[6], self.addresses[0]] if number == 7 else self.addresses
+
+
 class TestMembers(checks.Checked):
     needs = (Group,)
     # How often nodes are killed, and how many LRAs go through a home.
