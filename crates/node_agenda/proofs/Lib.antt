@@ -1,6 +1,7 @@
 mod Circle
 mod FirstDue
 mod Firsts
+mod InPlace
 mod Keeping
 mod Listed
 mod Owed

@@ -1,5 +1,5 @@
 -- What the other nodes sent that isn't stored yet.
-use Rattle.std.specs.Prelude.{◌≡◌, ◌≤◌, ◌-◌, ◌+◌, ◌*◌, ◌&&◌, ◌||◌, ◌==◌, ℕ, Bool, false, List, Option, None, Some, if◌then◌else◌, is_some, length, max, min, nat_le, nat_lt, not, replicate, slice_index_or, slice_set, true}
+use Rattle.std.specs.Prelude.{⊤, ◌≡◌, ◌≤◌, ◌-◌, ◌+◌, ◌*◌, ◌&&◌, ◌||◌, ◌==◌, ℕ, Bool, false, List, Option, None, Some, if◌then◌else◌, is_some, length, max, min, nat_le, nat_lt, not, replicate, slice_index_or, slice_set, true}
 use Rattle.std.specs.List.{list_any, range_with_len}
 use Rattle.std.specs.declared.time.Duration.{Duration}
 use Rattle.state_ids.specs.Fronts.{count}
@@ -145,6 +145,14 @@ is_queued node b = is_some (waiting_of node b) && not (is_failed node b)
 -- a backlog has a place for each of eight nodes
 abbrev pub HasPlaces : Backlog → Type 0
 HasPlaces b = length b.waiting ≡ 8
+
+-- what waits at a node's place came from that node
+abbrev pub IsFrom : (node : ℕ) → Option Told → Type 0
+IsFrom node None = ⊤
+IsFrom node (Some told) = told.from ≡ node
+
+abbrev pub AreInPlace : Backlog → Type 0
+AreInPlace b = (node : ℕ) → 1 ≤ node → node ≤ 8 → IsFrom node (waiting_of node b)
 
 -- the backlog of a node in which nothing waits
 abbrev pub no_backlog : (me : ℕ) → Backlog

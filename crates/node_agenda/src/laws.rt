@@ -14,7 +14,7 @@ ghost use Rattle.node_schedule.specs.Slips.{called_of};
 ghost use Rattle.node_schedule.specs.declared.slip.Called.{Called as TheCalled};
 ghost use Rattle.node_agenda.specs.Hearing.{IsListed, IsNoted};
 ghost use Rattle.node_agenda.specs.Kept.{Kept};
-ghost use Rattle.node_agenda.specs.Backlogs.{HasPlaces, IsFirstBehind, IsKept, IsTaken, after_end, after_put, is_owed, no_backlog, own_of, steps_to};
+ghost use Rattle.node_agenda.specs.Backlogs.{AreInPlace, HasPlaces, IsFirstBehind, IsKept, IsTaken, after_end, after_put, is_owed, no_backlog, own_of, steps_to};
 ghost use Rattle.node_agenda.specs.Mail.{Mail};
 ghost use Rattle.node_agenda.specs.Noted.{Notes, freed_by, with_became};
 ghost use Rattle.node_agenda.specs.Since.{IsHeardIn, is_unheard};
@@ -125,6 +125,22 @@ pub fn who_is_answered_lacks_nothing_that_it_told()
         b.taking ≡ Some taking → from ≢ taking.from →
         is_owed from asks front b ≡ true → is_owed from asks front (after_end is_taken b) ≡ true }
     ensures empty { (me : ℕ) → HasPlaces (no_backlog me) }
+{}
+
+/// What waits at a node's place came from that node: at first, and after each call. So what is being
+/// taken came from the node that is owed it, as the law on what a node is owed asks.
+pub fn what_waits_is_at_its_nodes_place()
+    ensures empty { (me : ℕ) → AreInPlace (no_backlog me) }
+    ensures put { (told : Told) (b : TheBacklog) → HasPlaces b → 1 ≤ told.from → told.from ≤ 8 →
+        AreInPlace b → HasPlaces (after_put told b) × AreInPlace (after_put told b) }
+    ensures taken { (now : TheDuration) (old new : TheBacklog) (told : Told) → HasPlaces old → AreInPlace old →
+        IsTaken now old new told →
+        HasPlaces new × AreInPlace new
+        × (new.taking ≡ Some (record { from = told.from; own = own_of told })) }
+    ensures kept { (now : TheDuration) (told : Told) (old new : TheBacklog) → HasPlaces old → 1 ≤ told.from → told.from ≤ 8 →
+        AreInPlace old → IsKept now told old new → HasPlaces new × AreInPlace new }
+    ensures ended { (is_taken : Bool) (b : TheBacklog) → HasPlaces b → AreInPlace b →
+        HasPlaces (after_end is_taken b) × AreInPlace (after_end is_taken b) }
 {}
 
 /// What a node sent waits for at most one telling of each other node: while it is to be taken, it is

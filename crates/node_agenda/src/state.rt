@@ -445,8 +445,8 @@ impl MailboxState {
     }
 
     /// Whether a node that asks is owed facts of its own: it sent more of them than it counts, and
-    /// they aren't stored here yet. It is answered once they are, so that a node whose journal is
-    /// older learns of each number that it gave.
+    /// they wait here to be stored. It is answered once they are stored or are given up, so that a
+    /// node whose journal is older learns of each number that it gave.
     pub fn is_owed(&self, from: NodeId, asks: &Front) -> bool
         ensures { result ≡ is_owed from asks.now self.now.known.front self.now.backlog }
     {

@@ -9,9 +9,13 @@ use std::fmt;
 /// text is the word, or what follows the name of an option.
 #[derive(Clone, Copy, Debug)]
 pub enum WrongWord<'a> {
+    /// The first word is missing: it says which nodes the process runs.
     NoNodes,
+    /// The first word names no nodes.
     Nodes(&'a str),
+    /// The folder is missing.
     NoFolder,
+    /// An option whose text isn't of its form; so are those below.
     Listen(&'a str),
     Operate(&'a str),
     Names(&'a str),
@@ -22,19 +26,29 @@ pub enum WrongWord<'a> {
     Patience(&'a str),
     /// An option that is given twice, or that stands behind a later one or an address.
     Misplaced(&'a str),
+    /// No option has this name.
     Unknown(&'a str),
+    /// Not the address of a node.
     Address(&'a str),
+    /// An address that an earlier node has.
     Twice(&'a str),
+    /// No address is given.
     NoAddresses,
     /// The ninth address.
     NinthNode(&'a str),
     /// The word of the nodes, of which the last has no address.
     NoSuchNode(&'a str),
+    /// `listen` in a process of several nodes.
     SharedListen(&'a str),
+    /// The `operate` port leaves no room above it for the other nodes of the process.
     NoPorts(&'a str),
+    /// `copies` asks for more nodes than there are.
     FewNodes(&'a str),
+    /// `copies` in a process of several nodes.
     SharedCopies(&'a str),
+    /// `patience` without `copies`.
     PatienceAlone(&'a str),
+    /// `strict` without `copies`.
     StrictAlone,
 }
 

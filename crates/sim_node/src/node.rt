@@ -1,4 +1,4 @@
-// A node: what outlives its lives, and what the simulator knows about it.
+// A simulated node: what outlives its lives, and what the simulator knows about it.
 
 use crate::call_summary::{CallSummary, body_of, cancel};
 use crate::copying::Wants;

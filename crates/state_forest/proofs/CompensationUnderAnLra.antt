@@ -1,4 +1,4 @@
--- what is due to compensate under one LRA
+-- The compensations that are due under one LRA, found from its record.
 use Rattle.std.proofs.Common.{◌≡◌, inl, inr, ◌<◌, ℕ, zero, suc, List, refl, sym, ap, subst, ◌∙◌, true, false, arith, Option, Some, None, find}
 use mathlib.Core.Bool.{not}
 use Rattle.std.specs.List.{AllByRecursion}

@@ -1,5 +1,5 @@
--- Rows stand for at most one view that keeps the rules, and the views of a lawful history keep
--- them.
+-- Rows stand for at most one view that keeps the rules of a frame, and every view of a lawful
+-- history keeps those rules.
 use Rattle.std.proofs.Common.{◌≡◌, inl, inr, ℕ, zero, suc, ◌+◌, ◌-◌, ◌<◌, ◌≤◌, ◌^◌, pos, List, [], get_or, length, refl, replicate, sym, subst, ◌∙◌, arith}
 use Rattle.std.specs.Int.{w64}
 use Rattle.std.proofs.Math.Facts.{to_z_pos}

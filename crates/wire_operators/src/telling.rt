@@ -1,4 +1,5 @@
-// Makes the answers with what the threads of a node know, and the page.
+// Makes the answers of the operators' port that need no call: what the threads of a node know, and
+// the page.
 ghost use Rattle.std.specs.Prelude.{◌≡◌, ◌∷◌, [], IfOk};
 ghost use Rattle.std.specs.Option.{option_copied};
 ghost use Rattle.wire_operators.specs.Serving.{IsTold, counts_answer, frame_options, page_answer, ready_answer, ready_text};

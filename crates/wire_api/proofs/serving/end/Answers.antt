@@ -1,3 +1,4 @@
+-- `end` sends the response that was made, whichever refusal it was made for.
 use Rattle.std.proofs.Common.{subst}
 use Rattle.std.specs.Prelude.{◌≡◌, IfOk}
 use Rattle.wire_http.specs.ByteResponses.{Response}

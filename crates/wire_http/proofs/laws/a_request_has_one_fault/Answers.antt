@@ -1,4 +1,4 @@
-use Rattle.wire_http.proofs.RequestVerdicts.{one_fault}
+use Rattle.wire_http.proofs.RequestFaults.{one_fault}
 use Rattle.wire_http.proofs.laws.a_request_has_one_fault.Goals as goal
 
 pub returns : goal.returns

@@ -9,7 +9,7 @@ use Rattle.wire_http.specs.Faults.{IsOfBytes}
 use Rattle.wire_http.specs.Heads.{IsNoHead, IsLong, Exceeds, HasNoHeadWithin, RefusesHead}
 use Rattle.wire_http.specs.Requests.{stated, HasHead, IsTextSoFar, RefusesRequest}
 use Rattle.wire_http.proofs.Stops.{shorter}
-use Rattle.wire_http.proofs.ResponseVerdicts.{Answers, one_answer}
+use Rattle.wire_http.proofs.ResponseFaults.{Answers, one_answer}
 
 abbrev pub IsUnfinished : List ℕ → Type 0
 IsUnfinished input = RefusesHead Request 16384 64 input Cut
