@@ -1,15 +1,16 @@
 -- What the threads of a node hand to one another, and when what is to be done with it.
-use Rattle.std.specs.Prelude.{◌-◌, ◌+◌, ◌&&◌, ◌||◌, ◌==◌, ℕ, Bool, true, false, List, Option, if◌then◌else◌, length, max, min, nat_le, nat_lt, slice_set}
+use Rattle.std.specs.Prelude.{◌-◌, ◌+◌, ◌&&◌, ◌||◌, ◌==◌, [], ℕ, Bool, true, false, List, Option, None, if◌then◌else◌, length, max, min, nat_le, nat_lt, not, replicate, slice_set}
 use Rattle.std.specs.List.{list_any}
 use Rattle.std.specs.Duration.{as_nanos}
 use Rattle.std.specs.declared.time.Duration.{Duration}
 use Rattle.state_ids.specs.Fronts.{count, join_fronts}
 use Rattle.node_inbox.specs.Letters.{Said}
-use Rattle.node_schedule.specs.Calling.{Calling}
+use Rattle.node_schedule.specs.Calling.{Calling, nothing}
 use Rattle.node_schedule.specs.Slips.{at_once}
 use Rattle.node_schedule.specs.Turns.{is_due}
-use Rattle.node_agenda.specs.Backlogs.{after_end}
-use Rattle.node_agenda.specs.Since.{Since}
+use Rattle.node_agenda.specs.Backlogs.{after_end, no_backlog}
+use Rattle.node_agenda.specs.Since.{Since, at_rest}
+use Rattle.node_agenda.specs.Starts.{heard_with}
 use Rattle.node_agenda.specs.Sweeps.{Sweeps}
 use Rattle.node_agenda.specs.declared.asking.Asking.{Asking}
 use Rattle.node_agenda.specs.declared.backlog.Backlog.{Backlog}
@@ -18,6 +19,7 @@ use Rattle.node_agenda.specs.declared.start_state.StartState.{StartState}
 use Rattle.node_agenda.specs.declared.task.OperatorWant.{OperatorWant}
 use Rattle.node_agenda.specs.declared.task.OperatorWant.TheVariants.{Command, Nothing, Question}
 use Rattle.node_agenda.specs.declared.turn.Turn.{Turn}
+use Rattle.node_agenda.specs.declared.turn.Turn.TheVariants.{OfDuties}
 
 -- Whom to call; the letters that aren't stored yet, oldest first; what other nodes sent that isn't;
 -- what is known of how many facts there are; whether commands are accepted yet; when deadlines are
@@ -39,6 +41,25 @@ pub record Mail : Type 0 where
   pub wanted : OperatorWant
   pub sweeps : Sweeps
   pub since : Since
+
+-- Nothing is there, and nothing is known of the node's own front. If the others are in processes of
+-- their own, the front is asked for first, and commands aren't accepted yet.
+abbrev pub empty_mail : (me nodes : ℕ) → (are_apart waits_for_all : Bool) → Sweeps → Mail
+empty_mail me nodes are_apart waits_for_all sweeping = record {
+  calls = nothing;
+  letters = [];
+  backlog = no_backlog me;
+  known = record { front = replicate nodes 0; is_counted = false; is_to_count = are_apart; counts_at = at_once };
+  opening = record { me = me; waits_for_all = waits_for_all; is_open = not are_apart; opens_at = None; is_late = false; heard = heard_with me (replicate nodes 0); awaited = replicate nodes 0; claimed = replicate nodes 0; doubtful = replicate nodes 0 };
+  asking = record { is_stirred = true; is_put_off = false; asked_at = at_once; ticks_at = at_once };
+  held_until = at_once;
+  last = OfDuties;
+  is_hurried = false;
+  has_ended = false;
+  wanted = Nothing;
+  sweeps = sweeping;
+  since = at_rest;
+}
 
 -- the state with one of these parts replaced
 abbrev pub with_calls : Calling → Mail → Mail

@@ -1,23 +1,20 @@
 // The state that the lock of a node's mailbox guards.
-ghost use Rattle.std.specs.Prelude.{◌≡◌, ◌≤◌, ◌-◌, ◌||◌, [], IfNone, None, false, is_some, length, nat_lt, not, replicate, true};
-ghost use Rattle.node_schedule.specs.Calling.{nothing};
+ghost use Rattle.std.specs.Prelude.{◌≡◌, ◌≤◌, ◌-◌, ◌||◌, IfNone, false, is_some, length, nat_lt, true};
 ghost use Rattle.node_schedule.specs.Resuming.{ResumesAt};
-ghost use Rattle.node_schedule.specs.Slips.{at_once};
 ghost use Rattle.node_schedule.specs.Turns.{MayTake};
 ghost use Rattle.node_agenda.specs.Hearing.{HearsOf, IsAnswered, IsAskedNow, IsDueFrom, IsLetGo, IsListed, IsNoted, IsPut, IsPutIn, IsPutLast, IsReturned, is_harmless, pace_of};
-ghost use Rattle.node_agenda.specs.Since.{PausesEach, at_rest};
-ghost use Rattle.node_agenda.specs.Backlogs.{ended_of, is_kept, is_owed, is_queued, no_backlog, not_returned};
+ghost use Rattle.node_agenda.specs.Since.{PausesEach};
+ghost use Rattle.node_agenda.specs.Backlogs.{ended_of, is_kept, is_owed, is_queued, not_returned};
 ghost use Rattle.node_agenda.specs.Moments.{earlier_of};
-ghost use Rattle.node_agenda.specs.Mail.{after_news, counted, hastened, is_any, is_anyone, learnt, to_count, with_asking, with_calls, with_end, with_end_of, with_hold, with_hurry, with_known, with_opening, with_sweeps, with_wanted};
+ghost use Rattle.node_agenda.specs.Mail.{after_news, counted, empty_mail, hastened, is_any, is_anyone, learnt, to_count, with_asking, with_calls, with_end, with_end_of, with_hold, with_hurry, with_known, with_opening, with_sweeps, with_wanted};
 ghost use Rattle.node_agenda.specs.Noted.{Notes, with_news};
 ghost use Rattle.node_agenda.specs.Sweeps.{IsSeen, fill_of, left_by, turned, with_full};
 ghost use Rattle.state_ids.specs.Fronts.{count};
 ghost use Rattle.state_ids.specs.declared.TheConstants.{MAX_NODES};
-ghost use Rattle.node_agenda.specs.Starts.{IsOpened, claim_of, claimed_by, heard_by, heard_with, own_awaited, patient};
+ghost use Rattle.node_agenda.specs.Starts.{IsOpened, claim_of, claimed_by, heard_by, own_awaited, patient};
 ghost use Rattle.node_agenda.specs.Resting.{IsIdleFor, has_task, is_occupied, looks_at, next_at, rests_until, tries_or};
 ghost use Rattle.node_agenda.specs.Tasks.{Does, IsNextKind, IsNextTask, has, is_spared, may_enter};
 ghost use Rattle.node_agenda.specs.declared.task.OperatorWant.TheVariants.{Nothing};
-ghost use Rattle.node_agenda.specs.declared.turn.Turn.TheVariants.{OfDuties as TheDuties};
 
 use crate::asking::Asking;
 use crate::backlog::Backlog;
@@ -138,21 +135,7 @@ impl MailboxState {
         sweeping: Sweeping,
     ) -> MailboxState
         requires { (1 ≤ nodes) × (nodes ≤ MAX_NODES) }
-        ensures { result ≡ record {
-          calls = nothing;
-          letters = [];
-          backlog = no_backlog me;
-          known = record { front = replicate nodes 0; is_counted = false; is_to_count = are_apart; counts_at = at_once };
-          opening = record { me = me; waits_for_all = waits_for_all; is_open = not are_apart; opens_at = None; is_late = false; heard = heard_with me (replicate nodes 0); awaited = replicate nodes 0; claimed = replicate nodes 0; doubtful = replicate nodes 0 };
-          asking = record { is_stirred = true; is_put_off = false; asked_at = at_once; ticks_at = at_once };
-          held_until = at_once;
-          last = TheDuties;
-          is_hurried = false;
-          has_ended = false;
-          wanted = Nothing;
-          sweeps = sweeping;
-          since = at_rest;
-        } }
+        ensures { result ≡ empty_mail me nodes are_apart waits_for_all sweeping }
     {
         MailboxState {
             calls: Schedule::new(alloc),

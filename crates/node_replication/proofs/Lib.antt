@@ -8,4 +8,4 @@ mod Stored
 mod Telling
 mod Tickets
 mod Troubles
-mod Waiting
+pub mod Waiting  -- nobody waits for ever

@@ -76,7 +76,7 @@ fn counts(theirs: u64, ours: u64, is_behind: bool) -> bool
 }
 
 impl<L: Drop> FollowersState<L> {
-    ghost use Rattle.node_replication.specs.Followers.{IsGoing, MayGo, at_first, doubted, hearing, judged, judging, kept, promised, put_off_to, refuses, standing_at, to_call, with_pace, with_spread, with_wait};
+    ghost use Rattle.node_replication.specs.Followers.{IsGoing, MayGo, at_first, doubted, hearing, judged, judging, kept, promised, put_off_to, refuses, standing_at, to_call, wants_any, with_pace, with_spread, with_wait};
     ghost use Rattle.node_replication.specs.Paces.{DoAllListen, with_begin, with_end};
     ghost use Rattle.node_replication.specs.Waits.{with_told};
     ghost use Rattle.state_ids.specs.Fronts.{count};
@@ -109,6 +109,13 @@ impl<L: Drop> FollowersState<L> {
             list: None,
             is_doubted: false,
         }
+    }
+
+    /// Whether any copies are wanted.
+    pub fn wants_any(&self) -> bool
+        ensures { result ≡ wants_any self.now }
+    {
+        self.wanted > 0
     }
 
     /// Records that a call begins that may store a fact of this node.

@@ -1,0 +1,22 @@
+//! A node's state besides its journal, as one value: what its threads hand to one another, what other
+//! nodes have of its facts, which calls are accepted, and how far its run is. It knows no thread, no
+//! lock, no socket and no clock: each moment is passed in.
+#![tactic(auto)]
+
+mod admitting;
+mod calls;
+mod desk_watch;
+pub mod laws;
+mod node_state;
+mod peers;
+mod pulling;
+mod run_tally;
+mod turns;
+
+pub use calls::{Admission, AskedCall, CallResult, Caller, ReplyKind};
+pub use desk_watch::DeskWatch;
+pub use node_state::{NodeSettings, NodeState, Unready};
+pub use peers::Peers;
+pub use pulling::{AskedPull, Receipt};
+pub use run_tally::RunTally;
+pub use turns::{Readied, Wakeups};
