@@ -451,6 +451,8 @@ class TestMembers(checks.Checked):
             if took < 0.9:
                 break
             print(f"        this machine was slow: the first begin took {in_ms(took)}", flush=True)
+            # (What no other node has yet is lost with the next copy, and its number may be given again.)
+            group.all_come_to(new, "Active")
             known.add(new)
         if took >= 0.9:
             group.end()
