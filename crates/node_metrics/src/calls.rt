@@ -81,6 +81,6 @@ pub fn calls_of<R: Wait + Clock>(
     alloc: Global,
     node: &Node,
 ) -> Result<Vec<u8>, AllocError> {
-    let plaints = node.mailbox.plaints(rt, alloc, now(rt))?;
+    let plaints = node.core.plaints(rt, alloc, now(rt))?;
     calls_text(alloc, &plaints)
 }

@@ -180,7 +180,7 @@ fn push_ages(
 fn push_front<R: Wait>(page: &mut MetricsPage, rt: &R, node: &Node) -> Result<(), AllocError> {
     let name = "lra_front";
     page.family(name, "gauge", "Facts of each node that this node has.")?;
-    let front = node.mailbox.front(rt);
+    let front = node.core.front(rt);
     let mut of = 0u64;
     for count in front.as_slice() {
         of = of.saturating_add(1);
@@ -194,7 +194,7 @@ fn push_front<R: Wait>(page: &mut MetricsPage, rt: &R, node: &Node) -> Result<()
 fn push_held<R: Wait>(page: &mut MetricsPage, rt: &R, node: &Node) -> Result<(), AllocError> {
     let name = "lra_held";
     page.family(name, "gauge", "LRAs of the node's home, by what they show.")?;
-    let held = node.mailbox.held(rt);
+    let held = node.core.held(rt);
     for (status, value) in STATUSES.iter().zip(&held) {
         page.open(name)?;
         page.label("status", status.name())?;
@@ -245,8 +245,8 @@ fn push_participants<R: Wait>(
     push_callbacks(page, numbers)?;
     let help =
         "Participants that wait for a call, are being called, or pause before the next call.";
-    page.single("lra_callbacks_due", "gauge", help, node.mailbox.due(rt))?;
-    let (count, oldest) = node.mailbox.in_vain(rt, now);
+    page.single("lra_callbacks_due", "gauge", help, node.core.due(rt))?;
+    let (count, oldest) = node.core.in_vain(rt, now);
     let help = "Participants whose calls fail.";
     page.single("lra_callbacks_vain", "gauge", help, count)?;
     let help = "The longest time for which a participant's calls have failed.";
@@ -269,7 +269,7 @@ fn push_told<R: Wait>(page: &mut MetricsPage, rt: &R, node: &Node) -> Result<(),
         if other != node.me {
             page.open(name)?;
             page.label_number("by", u64::from(number))?;
-            page.close(node.followers.told(rt, other))?;
+            page.close(node.core.told(rt, other))?;
         }
     }
     Ok(())
@@ -288,7 +288,7 @@ fn push_waiting<R: Wait>(page: &mut MetricsPage, rt: &R, node: &Node) -> Result<
     let help =
         "Answers and lists of callbacks that waited for copies, by whether these came in time.";
     page.family(name, "counter", help)?;
-    let waited = node.followers.waited(rt);
+    let waited = node.core.waited(rt);
     page.named(
         name,
         "came",
@@ -296,7 +296,7 @@ fn push_waiting<R: Wait>(page: &mut MetricsPage, rt: &R, node: &Node) -> Result<
         &[waited.copied, waited.late],
     )?;
     let help = "Whether other nodes have been behind for longer than an answer waits.";
-    let short = u64::from(node.followers.is_short(rt));
+    let short = u64::from(node.core.is_short(rt));
     page.single("lra_copies_short", "gauge", help, short)
 }
 

@@ -1,4 +1,5 @@
 pub mod Ending
 pub mod Entering
+pub mod Errands
 pub mod Failing
 pub mod Running

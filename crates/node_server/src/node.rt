@@ -103,7 +103,7 @@ where
         return Err(Failure::Run);
     }
     let Some(book) = book else {
-        let had = node.mailbox.front(rt);
+        let had = node.core.front(rt);
         return reopened(rt, log, alloc, node, stores, shared, &had, backoff);
     };
     if goes_on(reason) {
@@ -185,7 +185,7 @@ where
     R: Wait + Clock + Sockets,
     requires { IfSome book (λ b. b.opening ≡ None) }
 {
-    if node.tally.has_stored() {
+    if node.core.has_stored(rt) {
         backoff.forget();
     }
     let mut reason = node.signal.stop_reason(rt);
@@ -404,7 +404,7 @@ where
         addressee,
     } = runtime;
     node.note_start(rt);
-    node.note_journal(rt, &begun.book.front());
+    node.core.start(rt, &begun.book.front());
     let Some(paths) = paths_of(rt, alloc, node) else {
         return Ok(());
     };

@@ -2,6 +2,7 @@
 // a desk.
 
 pub(crate) mod calls;
+pub(crate) mod errand;
 pub(crate) mod operator_clerk;
 pub(crate) mod report;
 

@@ -12,7 +12,7 @@ use crate::{Stores, Unopened};
 use log::{Log, info, warn};
 use node_agenda::Keep;
 use node_sockets::{Peer, Site, Sockets, StopReason};
-use node_threads::{Build, End, Manners, News, Node, Shutdown, Tally, Wants, drain};
+use node_threads::{Build, End, Manners, News, Node, RunLength, Shutdown, Wants, drain};
 use node_worker::{Addressee, GroupName, query_by};
 use sqlite::Alter;
 use state_book::{Book, MAX_ENTRIES, MAX_MOVES};
@@ -166,12 +166,12 @@ fn runtimes_of<R: Sockets, S: Alter + Drop>(
     Ok(runtimes)
 }
 
-/// Makes a tally by which a run ends before it is full.
-fn tally() -> Tally {
-    Tally::new(
-        (MAX_ENTRIES as u64).saturating_sub(ENTRIES_LEFT),
-        (MAX_MOVES as u64).saturating_sub(MOVES_LEFT),
-    )
+/// Returns how long a run is, so that it ends before it is full.
+fn run_length() -> RunLength {
+    RunLength {
+        max_calls: (MAX_ENTRIES as u64).saturating_sub(ENTRIES_LEFT),
+        max_moves: (MAX_MOVES as u64).saturating_sub(MOVES_LEFT),
+    }
 }
 
 /// Returns the same places of news once more.
@@ -202,7 +202,17 @@ fn nodes_of(alloc: Global, nodes: u8, port: u16) -> Result<Vec<Node>, AllocError
         told.push(Arc::try_clone(&news)?)?;
         let site = Site::here(port, number);
         let manners = Manners::of_nobody(alloc);
-        all.push(Node::new(alloc, me, nodes, site, keep, tally(), shared, told, manners))?;
+        all.push(Node::new(
+            alloc,
+            me,
+            nodes,
+            site,
+            keep,
+            run_length(),
+            shared,
+            told,
+            manners,
+        ))?;
     }
     Ok(all)
 }
@@ -339,7 +349,17 @@ fn nodes_of_members(
             names.as_str(),
             &build,
         )?;
-        all.push(Node::new(alloc, me, nodes, site, keep, tally(), own, told, manners))?;
+        all.push(Node::new(
+            alloc,
+            me,
+            nodes,
+            site,
+            keep,
+            run_length(),
+            own,
+            told,
+            manners,
+        ))?;
         number = number.saturating_add(1);
     }
     Ok((all, group))

@@ -253,8 +253,7 @@ where
     let Ok((desk, passes)) = Desk::<J, S>::new(alloc, book, blank, PASSES) else {
         return None;
     };
-    node.tally.begin();
-    node.followers.note_begun(rt);
+    node.core.begin_run(rt);
     node.queue.begin(rt);
     let passes = run_threads(rt, alloc, node, shared, &desk, passes);
     if passes.len() != PASSES {

@@ -76,7 +76,7 @@ fn pull_one<R: Wait + Clock + Sockets>(
     let Ok(who) = NodeId::new(other) else {
         return PullResult::Failed;
     };
-    let front = node.mailbox.front(rt);
+    let front = node.core.front(rt);
     let Ok(stream) = node.site.reach(rt, alloc, &node.signal, other) else {
         return PullResult::Failed;
     };
@@ -87,7 +87,7 @@ fn pull_one<R: Wait + Clock + Sockets>(
     if told.nodes() != front.nodes() || told.below(&front) {
         return PullResult::Nothing;
     }
-    if node.mailbox.put_telling(rt, telling) {
+    if node.core.put_telling(rt, telling) {
         PullResult::New
     } else {
         PullResult::Failed
@@ -129,15 +129,15 @@ fn next_teller(node: &Node, other: u8, told: &NewsCounts, seen: &NewsCounts) -> 
 /// It begins once the number of the node's facts is known, because otherwise each other node would
 /// first send everything that there is.
 pub fn pull_in_turn<R: Wait + Clock + Sockets>(rt: &R, alloc: Global, node: &Node) {
-    node.mailbox.want_count(rt);
-    if node.mailbox.wait_for_count(rt) {
+    node.core.want_count(rt);
+    if node.core.wait_for_count(rt) {
         return;
     }
     let mut other = node.number();
     let mut round_ms = SHORT_ROUND_MS;
     let mut seen = NewsCounts::new();
     for _ in rt.forever() {
-        if node.mailbox.sleep(rt, Duration::from_millis(PAUSE_MS)) {
+        if node.core.sleep(rt, Duration::from_millis(PAUSE_MS)) {
             return;
         }
         let Some(told) = node

@@ -122,14 +122,14 @@ fn warn_of<L: Log>(log: &L, node: &Node, plight: &Plight) {
 /// calls have failed for a minute.
 pub fn call_out<R: Wait + Clock + Sockets, L: Log>(rt: &R, log: &L, alloc: Global, node: &Node) {
     for _ in rt.forever() {
-        let Some(due) = node.mailbox.next_duty(rt) else {
+        let Some(due) = node.core.next_duty(rt) else {
             return;
         };
         let began = now(rt);
         let kind = due.duty().kind;
         let came = call_one(rt, alloc, node, due);
         node.counts.callback(rt, kind, heard_of(&came));
-        if let Some(plight) = node.mailbox.tell(rt, began, came) {
+        if let Some(plight) = node.core.tell(rt, began, came) {
             warn_of(log, node, &plight);
         }
     }

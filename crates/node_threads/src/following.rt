@@ -5,6 +5,7 @@ use crate::asking::pull_over;
 use crate::counts::PullResult;
 use crate::node::Node;
 use log::{Log, warn};
+use node_core::Receipt;
 use node_inbox::Telling;
 use node_replication::{NextPull, Outlook, Pulled};
 use node_sockets::{Sockets, now};
@@ -22,9 +23,9 @@ const TAKING_MS: u64 = 200;
 /// The next pull reports that it is taken.
 fn handed<R: Wait + Clock>(rt: &R, node: &Node, other: NodeId, seen: u64, told: &Front) -> Pulled {
     let time = Duration::from_millis(TAKING_MS);
-    if node.mailbox.wait_until_taken(rt, other, seen, told, time) {
+    if node.core.wait_until_taken(rt, other, seen, told, time) {
         Pulled::New
-    } else if node.mailbox.keeps(rt, other) {
+    } else if node.core.keeps(rt, other) {
         Pulled::Kept
     } else {
         Pulled::Untaken
@@ -42,23 +43,14 @@ fn take_over<R: Wait + Clock>(
     telling: Telling,
 ) -> Pulled {
     let told = telling.front();
-    if told.nodes() != front.nodes() {
-        return Pulled::Unanswered;
-    }
-    if node.is_lost(rt, &told) {
-        return Pulled::Lost;
-    }
-    let Some(receipt) = node.receive(rt, anew, telling) else {
-        return Pulled::Untaken;
-    };
-    if receipt.is_newer {
-        Pulled::Newer
-    } else if told.count(other) < front.count(other) {
-        Pulled::Older
-    } else if receipt.is_new {
-        handed(rt, node, other, receipt.ended, &told)
-    } else {
-        Pulled::Nothing
+    match node.core.receive(rt, front, anew, telling) {
+        Receipt::Unanswered => Pulled::Unanswered,
+        Receipt::Lost => Pulled::Lost,
+        Receipt::Outdated => Pulled::Untaken,
+        Receipt::Newer => Pulled::Newer,
+        Receipt::Older => Pulled::Older,
+        Receipt::Nothing => Pulled::Nothing,
+        Receipt::Waits { ended } => handed(rt, node, other, ended, &told),
     }
 }
 
@@ -81,8 +73,8 @@ fn pull_once<R: Wait + Clock + Sockets>(
     other: NodeId,
     waits: bool,
 ) -> Pulled {
-    node.mailbox.wait_for_turn(rt, other);
-    let (front, anew) = (node.mailbox.front(rt), node.mailbox.times_anew(rt, other));
+    node.core.wait_for_turn(rt, other);
+    let (front, anew) = node.core.asking(rt, other);
     let Ok(stream) = node.site.reach(rt, alloc, &node.signal, other.number()) else {
         return Pulled::Unreached;
     };
@@ -94,9 +86,9 @@ fn pull_once<R: Wait + Clock + Sockets>(
 }
 
 /// Returns the result of a pull, after what it handed over was looked at.
-fn came_to(node: &Node, other: NodeId, pulled: Pulled) -> Pulled {
-    match node.take_refused(other) {
-        Some(number) => Pulled::Refused(number),
+fn came_to<R: Wait>(rt: &R, node: &Node, other: NodeId, pulled: Pulled) -> Pulled {
+    match node.core.take_refused(rt, other) {
+        Some(number) => Pulled::Refused(u64::from(number)),
         None => pulled,
     }
 }
@@ -177,7 +169,7 @@ fn rest_before<R: Wait + Clock>(
     next: NextPull,
     seen: u64,
 ) -> Option<u64> {
-    if node.mailbox.sleep(rt, Duration::from_millis(next.pause_ms)) {
+    if node.core.sleep(rt, Duration::from_millis(next.pause_ms)) {
         return None;
     }
     let time = Duration::from_millis(next.wait_ms);
@@ -197,7 +189,7 @@ pub fn follow<R: Wait + Clock + Sockets, L: Log>(
     node: &Node,
     other: NodeId,
 ) {
-    if node.mailbox.wait_for_count(rt) {
+    if node.core.wait_for_count(rt) {
         return;
     }
     let mut outlook = Outlook::new();
@@ -206,10 +198,10 @@ pub fn follow<R: Wait + Clock + Sockets, L: Log>(
         let began = now(rt);
         let pulled = pull_once(rt, alloc, node, other, next.waits);
         let is_held = next.is_held(began, now(rt));
-        let pulled = came_to(node, other, pulled);
+        let pulled = came_to(rt, node, other, pulled);
         warn_of(rt, log, node, other, began, pulled, &mut outlook);
-        node.note_silent(other, fault_of(pulled).is_some());
-        next = next.behind(pulled, is_held, node.asks_waiting(other));
+        node.core.note_silent(rt, other, fault_of(pulled).is_some());
+        next = next.behind(pulled, is_held, node.core.asks_waiting(rt, other));
         let Some(told) = rest_before(rt, node, other, next, seen) else {
             return;
         };

@@ -1,6 +1,6 @@
 //! The threads of a node that know no journal, one in each file: the thread that accepts
 //! connections, those that call participants, those that pull, and the one that watches; and what
-//! they share (`Node`): the mailbox, counts, news. The lines for standard error, and the program's
+//! they share (`Node`): the node's state under one lock (`Core`), counts, news. The lines for standard error, and the program's
 //! end, belong to all nodes.
 #![tactic(auto)]
 
@@ -9,16 +9,14 @@ mod asking;
 mod build;
 mod calling;
 mod counts;
-mod desk_watch;
-mod followers;
 mod following;
-mod mailbox;
+mod locked;
 mod news;
 mod node;
 mod plaints;
 mod shutdown;
 mod stderr_lines;
-mod tally;
+mod wants;
 mod watching;
 
 pub use accepting::{accept, accept_operators};
@@ -28,14 +26,12 @@ pub use calling::call_out;
 pub use counts::{
     CALL_NAMES, CallKind, Counts, HEARD, KINDS, Numbers, PULLS, REFUSALS, RUNS, SWEPT,
 };
-pub use desk_watch::DeskWatch;
-pub use followers::{Followers, Waited, Wants};
 pub use following::follow;
-pub use mailbox::Mailbox;
+pub use locked::Core;
 pub use news::News;
-pub use node::{Manners, Node};
+pub use node::{Manners, Node, RunLength};
 pub use plaints::Plaint;
 pub use shutdown::{End, Shutdown, drain};
 pub use stderr_lines::{Lines, ToLines, lines_of};
-pub use tally::Tally;
+pub use wants::{Waited, Wants};
 pub use watching::watch;

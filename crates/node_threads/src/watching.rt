@@ -197,16 +197,16 @@ fn warn_of_copies<R: Wait, L: Log>(
     lag: Lag,
     now: Duration,
 ) -> Lag {
-    let (number, copies) = (node.number(), node.followers.wants().copies);
-    let is_short = node.followers.is_short(rt);
-    let is_strange = node.followers.has_strange(rt);
-    let is_doubted = node.followers.is_doubted(rt);
+    let (number, copies) = (node.number(), node.wants().copies);
+    let is_short = node.core.is_short(rt);
+    let is_strange = node.core.has_strange(rt);
+    let is_doubted = node.core.is_doubted(rt);
     let others = if copies == 1 {
         "other node"
     } else {
         "other nodes"
     };
-    if let Some(count) = late.add(node.followers.take_late(rt), now) {
+    if let Some(count) = late.add(node.core.take_late(rt), now) {
         warn!(log; "node {number}: {count} answers or lists of callbacks were released before {copies} {others} had stored what they show");
     }
     if lag.was_short && !is_short {
@@ -231,10 +231,10 @@ const CLAIM_LOOKS: u64 = 5;
 /// Returns which node claims to have more facts of this node than it has itself, and how many, if a
 /// start waits for that.
 fn claim_of<R: Wait>(rt: &R, node: &Node) -> Option<(u8, u64)> {
-    let own = node.mailbox.front(rt).count(node.me);
+    let own = node.core.front(rt).count(node.me);
     for number in 1..=node.nodes {
         if let Ok(other) = NodeId::new(number) {
-            if let Some(claim) = node.mailbox.claim_of(rt, other) {
+            if let Some(claim) = node.core.claim_of(rt, other) {
                 if claim > own {
                     return Some((number, claim));
                 }
@@ -273,20 +273,20 @@ pub fn watch<R: Wait + Clock, L: Log>(rt: &R, log: &L, node: &Node) {
         was_doubted: false,
     };
     for _ in rt.forever() {
-        if node.mailbox.sleep(rt, Duration::from_millis(LOOK_MS)) {
+        if node.core.sleep(rt, Duration::from_millis(LOOK_MS)) {
             return;
         }
         let now = now(rt);
-        hung = warn_of_disk(log, node.number(), hung, node.desk.hangs(now));
-        let fill = node.mailbox.fill(rt);
+        hung = warn_of_disk(log, node.number(), hung, node.core.hangs(rt));
+        let fill = node.core.fill(rt);
         if warned.note_fill(&fill, now) {
             warn_of(log, node.number(), &fill);
         }
-        let failed = failed_of(&node.mailbox.held(rt));
+        let failed = failed_of(&node.core.held(rt));
         if failures.note(failed, now) {
             warn!(log; "node {}: LRAs of its own that failed to close or to cancel: {}", node.number(), failed);
         }
-        if node.followers.wants().any() {
+        if node.wants().any() {
             lag = warn_of_copies(rt, log, node, &mut late, lag, now);
         }
         claims = warn_of_claim(rt, log, node, claims);

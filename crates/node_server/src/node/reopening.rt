@@ -141,16 +141,16 @@ where
     R: Wait + Clock + Sockets,
     ensures { IfOk result (λ next. IfSome next (λ b. b.opening ≡ None)) }
 {
-    node.note_shut(true);
+    node.core.note_shut(rt, true);
     for _ in rt.forever() {
         if node.signal.has_ended(rt) {
             return Ok(None);
         }
         let why = match book_again(alloc, stores, node, had) {
             Ok(book) => {
-                node.note_shut(false);
+                node.core.note_shut(rt, false);
                 backoff.end_rest();
-                node.mailbox.hold(rt, backoff.next_pause());
+                node.core.hold(rt, backoff.next_pause());
                 return Ok(Some(book));
             }
             Err(why) => why,

@@ -53,32 +53,15 @@ impl<'n, R: Wait + Clock, L: Log> OperatorClerk<'n, R, L> {
         }
     }
 
-    // Whether nothing may be stored: the program is about to end, the journal just failed, the
-    // other nodes weren't heard from or have more of this one's facts, or too few have what is
-    // stored.
-    fn is_held_back(&self) -> bool {
-        self.node.is_ending()
-            || self.node.mailbox.is_spared(self.rt)
-            || self.node.mailbox.is_behind(self.rt)
-            || self.node.followers.refuses(self.rt)
-    }
-
-    // Whether nothing is asked of the writer thread: it has no journal, is to answer nothing, or a
-    // call would wait behind one that has waited too long.
-    fn is_closed(&self) -> bool {
-        self.node.is_shut()
-            || self.node.answers_nothing(self.rt)
-            || self.node.desk.stalls(now(self.rt))
-    }
-
     // Has the writer thread make a call.
     fn make(&self, call: Call, now: u64) -> Result<Reply, Refusal> {
-        if self.is_closed() || (enters(&call) && self.is_held_back()) {
+        let core = &self.node.core;
+        if core.is_closed(self.rt) || (enters(&call) && !core.takes_commands(self.rt)) {
             return Err(Refusal::Stopped);
         }
         let wanted = wanted_by(&call);
         self.errands.want(self.rt, call, now);
-        self.node.mailbox.want(self.rt, wanted);
+        core.want(self.rt, wanted);
         self.errands.wait(self.rt, self.node)
     }
 }
@@ -188,7 +171,7 @@ impl<'n, R: Wait + Clock, L: Log> OperatorClerk<'n, R, L> {
     // Returns the standing of an answer that has waited for a ticket since a moment. It waits for
     // at most a second, because the questions of others wait behind it.
     fn stand(&self, ticket: u64, since: Duration) -> Standing {
-        let standing = self.node.followers.stand(self.rt, ticket, since);
+        let standing = self.node.core.stand(self.rt, ticket, since);
         let is_over = now(self.rt).saturating_sub(since) >= Duration::from_millis(COPIES_MS);
         if standing == Standing::Waits && (is_over || self.node.signal.has_ended(self.rt)) {
             return Standing::Late;
@@ -199,11 +182,11 @@ impl<'n, R: Wait + Clock, L: Log> OperatorClerk<'n, R, L> {
     // Waits until other nodes have what an answer may show. Returns whether it may be given: a late
     // answer may not if copies are strict.
     fn wait_for_copies(&self) -> bool {
-        let (ticket, followers) = (self.node.target(self.rt), &self.node.followers);
+        let (ticket, is_strict) = (self.node.core.target(self.rt), self.node.wants().is_strict);
         if ticket == 0 {
             return true;
         }
-        if followers.wants().is_strict && followers.is_short(self.rt) {
+        if is_strict && self.node.core.is_short(self.rt) {
             return false;
         }
         self.node.pass_on(self.rt);
@@ -211,7 +194,7 @@ impl<'n, R: Wait + Clock, L: Log> OperatorClerk<'n, R, L> {
         for _ in self.rt.forever() {
             match self.stand(ticket, since) {
                 Standing::Copied => return true,
-                Standing::Late => return !self.node.followers.wants().is_strict,
+                Standing::Late => return !is_strict,
                 Standing::Waits => thread::sleep(self.rt, Duration::from_millis(LOOK_MS)),
             }
         }

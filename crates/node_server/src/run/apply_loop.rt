@@ -8,6 +8,7 @@ ghost use Rattle.node_agenda.specs.declared.task.Task.{Task as TheTask};
 ghost use Rattle.node_server.specs.Entering.{Counts, DoesEach, DoesTask, EntersLetter, IsMade, IsMadeAndCopied, IsMadeInMemory, MakesIf, duties_in, fits, told};
 
 use crate::operators::calls::{OperatorCall, OperatorCalls};
+use crate::operators::errand::Numbered;
 use crate::run::counting::refused_by;
 use crate::run::refusals::stop_reason_of;
 use crate::run::sweeping::sweep;
@@ -47,11 +48,11 @@ fn enter<R: Wait + Clock, C: Clerk>(
     };
     match clerk.call(alloc, Call::Command(command), unix_millis(rt)) {
         Ok(()) => {
-            node.mailbox.note_entered(rt, &letter);
+            node.core.note_entered(rt, &letter);
             Ok(())
         }
         Err(refusal) => {
-            node.mailbox.put_back(rt, letter);
+            node.core.put_back(rt, letter);
             Err(refusal)
         }
     }
@@ -63,9 +64,9 @@ fn is_expired(reply: &Reply) -> bool {
 }
 
 /// Whether what another node sent was taken. The reason for a refusal is recorded.
-fn note_told(node: &Node, from: NodeId, reply: &Reply) -> bool {
+fn note_told<R: Wait>(rt: &R, node: &Node, from: NodeId, reply: &Reply) -> bool {
     if let Some(number) = refused_by(reply) {
-        node.note_refused(from, number);
+        node.core.note_refused(rt, from, number);
     }
     is_taken(reply)
 }
@@ -89,8 +90,8 @@ fn keep<R: Wait + Clock>(
     refusal: Refusal,
 ) {
     match spare {
-        Some(telling) if refusal != Refusal::NoMemory => node.mailbox.keep_telling(rt, telling),
-        _ => node.mailbox.end_telling(rt, front, false),
+        Some(telling) if refusal != Refusal::NoMemory => node.core.keep_telling(rt, telling),
+        _ => node.core.end_telling(rt, front, 0, false),
     }
 }
 
@@ -105,15 +106,12 @@ fn take<R: Wait + Clock, C: Clerk>(
     ensures { IsMade C.Clerk clerk.old clerk.new (TakeDelta telling.frame) result }
 {
     let (front, from) = (telling.front(), telling.from());
-    let (spare, known) = (spare_of(node, &telling), node.mailbox.front(rt));
+    let (spare, known) = (spare_of(node, &telling), node.core.front(rt).count(node.me));
     let taken = clerk.call(alloc, Call::Take(telling.into_delta()), unix_millis(rt));
     match &taken {
         Ok(()) => {
-            let is_taken = note_told(node, from, clerk.reply());
-            node.mailbox.end_telling(rt, &front, is_taken);
-            if is_taken && front.count(node.me) > known.count(node.me) {
-                node.note_taken_back(rt, &front);
-            }
+            let is_taken = note_told(rt, node, from, clerk.reply());
+            node.core.end_telling(rt, &front, known, is_taken);
         }
         Err(refusal) => keep(rt, node, &front, spare, *refusal),
     }
@@ -146,10 +144,10 @@ fn ask<R: Wait + Clock, C: Clerk>(
 ) -> Result<(), Refusal>
     ensures { IsMadeInMemory C.Clerk clerk.old clerk.new AskDuties result }
 {
-    node.mailbox.begin_list(rt);
+    node.core.begin_list(rt);
     clerk.call(alloc, Call::Duties, unix_millis(rt))?;
     if let Some(duties) = duties_of(clerk.reply())? {
-        node.put_duties(rt, duties);
+        node.core.put_duties(rt, duties);
     }
     Ok(())
 }
@@ -165,7 +163,7 @@ fn expire<R: Wait + Clock, C: Clerk>(
 {
     clerk.call(alloc, Call::Expire, unix_millis(rt))?;
     if is_expired(clerk.reply()) {
-        node.mailbox.tick(rt);
+        node.core.tick(rt);
     }
     Ok(())
 }
@@ -228,7 +226,10 @@ fn serve_errand<R: Wait + Clock, C: Clerk>(
     let Some(errand) = errands.next(rt, wanted) else {
         return Ok(());
     };
-    let OperatorCall { number, call, now } = errand;
+    let Numbered {
+        number,
+        wanted: OperatorCall { call, now },
+    } = errand;
     let outcome = make(alloc, clerk, call, now);
     let told = told(&outcome);
     hand_back(rt, node, errands, number, outcome);
@@ -261,7 +262,7 @@ fn do_task<R: Wait + Clock, C: Clerk>(
         Task::Ask => {
             let asked = ask(rt, alloc, node, clerk);
             if asked.is_err() {
-                node.mailbox.stir(rt, false);
+                node.core.stir(rt, false);
             }
             asked
         }
@@ -269,7 +270,7 @@ fn do_task<R: Wait + Clock, C: Clerk>(
         Task::Count => {
             let counted = count(rt, alloc, node, clerk);
             if counted.is_err() {
-                node.mailbox.want_count(rt);
+                node.core.want_count(rt);
             }
             counted
         }
@@ -318,18 +319,13 @@ pub fn enter_all<R: Wait + Clock + Sockets, C: Clerk + Drop>(
     let mut looked = now(rt);
     for _ in rt.forever() {
         node.pass_on(rt);
-        node.end_if_spent(rt);
         if node.signal.stop_reason(rt).is_some() {
             return clerk;
         }
         looked = look_again(rt, node, looked);
-        node.put_held(rt);
-        let task = node.mailbox.next(rt);
-        if node.mailbox.take_opened() {
+        let (task, has_opened) = node.core.next(rt);
+        if has_opened {
             node.queue.free(rt);
-        }
-        if matches!(&task, Task::Ask) && node.followers.are_calls_held(rt) {
-            continue;
         }
         if let Err(refusal) = do_task(rt, alloc, node, errands, &mut clerk, task) {
             rest(rt, node, refusal);

@@ -4,13 +4,11 @@ ghost use Rattle.state_facts.specs.declared.refusal.Refusal.TheVariants.{Stopped
 
 use crate::run::counting::{asked_by, number_of, refused_by};
 use crate::run::pull_holder::front_in;
-use node_agenda::Effects;
-use node_effects::{
-    enters, freed_by, heard_by, is_any, is_completion, is_own_fact, is_stored, noted_by,
-};
+use node_core::{CallResult, Caller};
+use node_effects::{asked_call, freed_by, heard_by, is_completion, noted_by, result_of};
 use node_schedule::Called;
-use node_sockets::{Promise, now as moment};
-use node_threads::{CallKind, Node};
+use node_sockets::Promise;
+use node_threads::Node;
 use state_book::{Call, Clerk, Reply};
 use state_facts::Refusal;
 use state_ids::{Front, LraId};
@@ -30,8 +28,8 @@ const MEMBERS: u64 = 8;
 const MAX_SHARES: u64 = 320;
 
 /// A clerk that counts its calls, and records their effects for the other threads. The thread that
-/// makes the calls wakes those, once the answer is written (`Node::pass_on`), and ends the run then
-/// if it is nearly full (`Node::end_if_spent`).
+/// makes the calls wakes those, once the answer is written, and ends the run then if it is nearly full
+/// (`Node::pass_on`).
 #[derive(Drop)]
 pub struct CountingClerk<'n, R, C: Clerk> {
     rt: &'n R,
@@ -39,10 +37,9 @@ pub struct CountingClerk<'n, R, C: Clerk> {
     clerk: C,
     /// The place at which its thread is recorded while it waits at the desk.
     place: usize,
-    /// Whether commands are held back while the journal has just failed, or the others weren't
-    /// heard from.
-    holds: bool,
-    /// Whether one was held back since this was last asked.
+    /// Whose thread it is.
+    caller: Caller,
+    /// Whether a call was held back since this was last asked.
     held: bool,
     /// What the answer of its thread waits for, if it writes answers.
     promise: Option<&'n Promise>,
@@ -57,7 +54,7 @@ impl<'n, R, C: Clerk> CountingClerk<'n, R, C> {
             node,
             clerk,
             place,
-            holds: false,
+            caller: Caller::Writer,
             held: false,
             promise: None,
         }
@@ -79,13 +76,13 @@ impl<'n, R, C: Clerk> CountingClerk<'n, R, C> {
             node,
             clerk,
             place,
-            holds: true,
+            caller: Caller::Worker,
             held: false,
             promise: Some(promise),
         }
     }
 
-    /// Whether a command was held back since this was last asked.
+    /// Whether a call was held back since this was last asked.
     pub fn take_held(&mut self) -> bool {
         let held = self.held;
         self.held = false;
@@ -99,7 +96,7 @@ impl<'n, R, C: Clerk> CountingClerk<'n, R, C> {
             node: _,
             clerk,
             place: _,
-            holds: _,
+            caller: _,
             held: _,
             promise: _,
         } = self;
@@ -145,24 +142,6 @@ fn front_of(node: &Node, call: &Call) -> Option<Front> {
     }
 }
 
-/// Whether nothing of the node's own is stored now: the journal has just failed, the other nodes
-/// weren't heard from or have more of its facts, or too few have what is stored. At a start, a
-/// command has already waited for the others in the queue (`PullHolder`).
-fn is_held_back<R: Wait + Clock>(rt: &R, node: &Node) -> bool {
-    node.mailbox.is_spared(rt)
-        || (node.site.is_apart() && node.mailbox.is_behind(rt))
-        || node.followers.refuses(rt)
-}
-
-/// Whether a call is refused without asking the clerk: a command that is held back, or any call but
-/// a pull at a node whose journal may be lost.
-fn is_refused<R: Wait + Clock>(rt: &R, node: &Node, call: &Call) -> bool {
-    if node.answers_nothing(rt) && !matches!(call, Call::Pull(_)) {
-        return true;
-    }
-    enters(call) && (node.is_ending() || is_held_back(rt, node))
-}
-
 /// What a call says of participants.
 #[derive(Clone, Copy)]
 struct Said {
@@ -184,95 +163,12 @@ impl Said {
     }
 }
 
-/// Hands the effects of the call to the other threads.
-fn note<R: Wait + Clock>(rt: &R, node: &Node, noted: &Effects) {
-    if is_any(noted) {
-        node.mailbox.note(rt, noted);
-    }
-}
-
-/// Records the effects of a reply that the other threads and nodes go on with (`Node::pass_on`).
-fn tell<R: Wait + Clock>(rt: &R, node: &Node, reply: &Reply, said: &Said) {
-    if let Reply::Gave(delta) = reply {
-        node.mailbox.count(rt, &delta.front());
-    }
-    note(
-        rt,
-        node,
-        &noted_by(said.completes, &said.freed, &said.heard, reply),
-    );
-    if is_own_fact(reply) {
-        node.note_fact();
-    }
-}
-
-/// What a call means for the nodes that pull from this one.
-#[derive(Clone, Copy)]
-enum Step {
-    /// It may store a fact of the node.
-    Enters,
-    /// It asks for a frame, with this ticket.
-    Asks(u64),
-    Other,
-}
-
-/// Records that a call begins, if others pull from this process. A frame that is asked for here, to
-/// count facts, goes to nobody.
-fn begin<R: Wait>(rt: &R, node: &Node, call: &Call, answers: bool) -> Step {
-    if !node.site.is_apart() {
-        return Step::Other;
-    }
-    if enters(call) {
-        node.followers.begin(rt);
-        return Step::Enters;
-    }
-    match call {
-        Call::Pull(_) if answers => Step::Asks(node.followers.ask(rt)),
-        _ => Step::Other,
-    }
-}
-
-/// Records that the call is over, with this reply. Returns the ticket of the fact that it stored,
-/// or 0.
-fn end<R: Wait + Clock>(rt: &R, node: &Node, step: Step, reply: &Reply) -> u64 {
-    match (step, reply) {
-        (Step::Enters, _) => node.followers.end(rt, is_own_fact(reply)),
-        (Step::Asks(ticket), Reply::Gave(delta)) => {
-            node.followers.give(rt, ticket, &delta.front());
-            0
-        }
-        _ => 0,
-    }
-}
-
-/// Makes an answer wait for the fact that its call stored, or for everything that it may show. A
-/// frame waits for nothing.
-fn make<R: Wait>(rt: &R, node: &Node, promise: &Promise, step: Step, ticket: u64) {
-    if matches!(step, Step::Asks(_)) {
-        return;
-    }
-    if ticket > 0 {
-        promise.make(ticket);
-    } else {
-        promise.make(node.target(rt));
-    }
-}
-
-/// Records that the call is over, and was refused in this way. If the journal failed, something may
-/// be stored.
-fn give_up<R: Wait>(rt: &R, node: &Node, step: Step, refusal: &Refusal) {
-    if matches!(step, Step::Enters) {
-        let is_unknown = matches!(refusal, Refusal::JournalFailed);
-        let _ticket = node.followers.end(rt, is_unknown);
-    }
-}
-
-/// Records why a call was refused.
-fn tell_refused<R: Wait>(rt: &R, node: &Node, asked: CallKind, refusal: &Refusal) {
-    if matches!(refusal, Refusal::JournalFailed) {
-        node.tally.note_failure();
-    }
-    node.counts.call(rt, asked, Some(number_of(refusal)));
+/// Returns what a call resulted in that said this, counted as `weight` calls before it was made, and
+/// had this reply.
+fn result_by(said: &Said, weight: u64, is_move: bool, reply: &Reply) -> CallResult {
+    let effects = noted_by(said.completes, &said.freed, &said.heard, reply);
+    let weight = weight.saturating_add(weight_of_reply(reply));
+    result_of(effects, weight, is_move, reply)
 }
 
 impl<'n, R: Wait + Clock, C: Clerk + Drop> Clerk for CountingClerk<'n, R, C> {
@@ -286,26 +182,24 @@ impl<'n, R: Wait + Clock, C: Clerk + Drop> Clerk for CountingClerk<'n, R, C> {
         let (is_move, said, asked) = (call.is_move(), Said::by(&call), asked_by(&call));
         let weight = weight_of_call(&call);
         let front = front_of(self.node, &call);
-        if self.holds && is_refused(self.rt, self.node, &call) {
+        let admission = self
+            .node
+            .core
+            .admit(self.rt, self.caller, asked_call(&call), self.place);
+        let Some(admission) = admission else {
             self.held = true;
-            tell_refused(self.rt, self.node, asked, &Refusal::Stopped);
+            let number = number_of(&Refusal::Stopped);
+            self.node.counts.call(self.rt, asked, Some(number));
             return Err(Refusal::Stopped);
-        }
-        let promise = self.promise;
-        let step = begin(self.rt, self.node, &call, promise.is_some());
-        self.node.desk.begin(self.place, moment(self.rt));
-        let outcome = self.clerk.call(alloc, call, now);
-        self.node.desk.end(self.place);
-        match outcome {
+        };
+        match self.clerk.call(alloc, call, now) {
             Ok(()) => {
                 let reply = self.clerk.reply();
-                let ticket = end(self.rt, self.node, step, reply);
-                if let Some(promise) = promise {
-                    make(self.rt, self.node, promise, step, ticket);
+                let came = result_by(&said, weight, is_move, reply);
+                let ticket = self.node.core.settle(self.rt, admission, &came);
+                if let (Some(promise), Some(ticket)) = (self.promise, ticket) {
+                    promise.make(ticket);
                 }
-                let calls = weight.saturating_add(weight_of_reply(reply));
-                self.node.tally.count(calls, is_move, is_stored(reply));
-                tell(self.rt, self.node, reply, &said);
                 self.node.counts.call(self.rt, asked, refused_by(reply));
                 if let Some(front) = front {
                     self.node.hear_front(self.rt, &front);
@@ -313,8 +207,10 @@ impl<'n, R: Wait + Clock, C: Clerk + Drop> Clerk for CountingClerk<'n, R, C> {
                 Ok(())
             }
             Err(refusal) => {
-                give_up(self.rt, self.node, step, &refusal);
-                tell_refused(self.rt, self.node, asked, &refusal);
+                let has_failed = matches!(refusal, Refusal::JournalFailed);
+                self.node.core.give_up(self.rt, admission, has_failed);
+                let number = number_of(&refusal);
+                self.node.counts.call(self.rt, asked, Some(number));
                 Err(refusal)
             }
         }

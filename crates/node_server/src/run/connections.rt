@@ -259,7 +259,7 @@ impl<'a, R: Wait + Clock> Connections<'a, R> {
     fn keep_for(&self, pending: PendingConnection, ticket: u64) {
         let queue = &self.node.queue;
         queue.keep(self.rt, pending);
-        let covered = self.node.followers.covered(self.rt);
+        let covered = self.node.core.covered(self.rt);
         if covered >= ticket {
             queue.fulfil(self.rt, covered);
         }
@@ -285,7 +285,6 @@ impl<'a, R: Wait + Clock + Sockets> Arrivals for Connections<'a, R> {
     fn next(&mut self) -> Option<Buffered<'a, R>> {
         self.close_served();
         self.node.pass_on(self.rt);
-        self.node.end_if_spent(self.rt);
         let mut silent = 0usize;
         for _ in self.rt.forever() {
             if self.is_over() {

@@ -1,8 +1,8 @@
 // Decides which requests wait although they are whole.
 
-use node_agenda::OPENING_MS;
+use node_core::AskedPull;
 use node_replication::{PullDecision, Standing};
-use node_sockets::{Disposition, Hold, Holder, PullQuery, now};
+use node_sockets::{Disposition, Hold, Holder, PullQuery};
 use node_threads::Node;
 use node_worker::Addressee;
 use state_ids::{Front, MAX_NODES, NodeId};
@@ -45,14 +45,14 @@ impl<'n, R: Wait + Clock> PullHolder<'n, R> {
     }
 
     // Returns what happens to the pull of a node with this front.
-    fn judge(&self, from: NodeId, asked: &PullQuery, front: &Front) -> Hold {
-        if self.node.mailbox.is_owed(self.rt, from, front) {
-            return Hold::Later;
-        }
-        if !asked.waits {
-            return Hold::Serve;
-        }
-        match self.node.judge(self.rt, from, front, asked.since) {
+    fn judge(&self, from: NodeId, asked: &PullQuery, front: Front) -> Hold {
+        let pull = AskedPull {
+            from,
+            front,
+            waits: asked.waits,
+            since: asked.since,
+        };
+        match self.node.hear_pull(self.rt, &pull) {
             PullDecision::Serve => Hold::Serve,
             PullDecision::Soon if self.node.queue.waiting(self.rt) > CROWD => Hold::Serve,
             PullDecision::Soon => Hold::Soon,
@@ -63,26 +63,19 @@ impl<'n, R: Wait + Clock> PullHolder<'n, R> {
 
 impl<'n, R: Wait + Clock> Holder for PullHolder<'n, R> {
     fn stand(&self, ticket: u64, since: Duration) -> Disposition {
-        let followers = &self.node.followers;
-        match followers.stand(self.rt, ticket, since) {
+        match self.node.core.stand(self.rt, ticket, since) {
             Standing::Copied => Disposition::Send,
-            Standing::Late if followers.wants().is_strict => Disposition::Drop,
+            Standing::Late if self.node.wants().is_strict => Disposition::Drop,
             Standing::Late => Disposition::Send,
             Standing::Waits => Disposition::Wait,
         }
     }
 
     fn hold_command(&self, since: Option<Duration>) -> Hold {
-        let node = self.node;
-        if !node.site.is_apart() || !node.mailbox.is_opening(self.rt) {
-            return Hold::Serve;
-        }
-        let moment = now(self.rt);
-        let waited = moment.saturating_sub(since.unwrap_or(moment));
-        if waited >= Duration::from_millis(OPENING_MS) {
-            Hold::Serve
-        } else {
+        if self.node.core.holds_command(self.rt, since) {
             Hold::Later
+        } else {
+            Hold::Serve
         }
     }
 
@@ -93,15 +86,6 @@ impl<'n, R: Wait + Clock> Holder for PullHolder<'n, R> {
         if !self.is_meant(from, query) {
             return Hold::Serve;
         }
-        if asked.since.is_none() {
-            self.node.note_asked(self.rt, from, asked.waits);
-            self.node.hear_copies(self.rt, from, &front);
-            self.node.hear_asker(self.rt, from, &front);
-        }
-        let hold = self.judge(from, asked, &front);
-        if hold == Hold::Later && asked.since.is_none() {
-            self.node.hear_front(self.rt, &front);
-        }
-        hold
+        self.judge(from, asked, front)
     }
 }

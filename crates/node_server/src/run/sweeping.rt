@@ -17,9 +17,9 @@ use std::time::Clock;
 fn note<R: Wait + Clock>(rt: &R, node: &Node, reply: &Reply) {
     if let Reply::Surveyed(survey) = reply {
         for row in survey.rows() {
-            node.mailbox.see(rt, row.id, row.status, row.tree);
+            node.core.see(rt, row.id, row.status, row.tree);
         }
-        node.mailbox.turn(rt, survey.more());
+        node.core.turn(rt, survey.more());
     }
 }
 
@@ -54,8 +54,7 @@ fn purge<R: Wait + Clock, C: Clerk>(
     };
     clerk.call(alloc, call, unix_millis(rt))?;
     node.counts.sweep(rt, purged_by(clerk.reply()));
-    node.mailbox
-        .purged(rt, ripe.root(), purged_by(clerk.reply()));
+    node.core.purged(rt, ripe.root(), purged_by(clerk.reply()));
     Ok(())
 }
 
