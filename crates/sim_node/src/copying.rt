@@ -1,7 +1,5 @@
-// What other nodes have of a node's facts, and what waits for that. `CopyState` does what
-// `note_journal`, `answers_nothing`, `is_lost`, `doubt`, `note_taken_back`, `put_duties` and
-// `put_held` of node_threads/src/node.rt do, and `begin`, `end`, `make` and `give_up` of
-// node_server/src/run/clerk.rt.
+// What other nodes have of a node's facts, and what waits for that. `CopyState` does what `NodeState` of
+// node_core does at a start, for calls at the desk and for lists of duties.
 
 use crate::life::at;
 use node_effects::is_own_fact;

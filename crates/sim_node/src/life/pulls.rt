@@ -1,6 +1,5 @@
-// The pulls of a node in both directions, and what other nodes have of its facts. `hear_telling`
-// does what `receive` of node_threads/src/node.rt does, and `is_refused` what `is_refused`
-// of node_server/src/run/clerk.rt does.
+// The pulls of a node in both directions, and what other nodes have of its facts. `hear_telling` and
+// `is_refused` do what `receive` and `admit` of `NodeState` (node_core) do.
 
 use crate::call_summary::CallSummary;
 use crate::copying::{CallStep, CopyState, Release};
