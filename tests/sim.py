@@ -14,14 +14,14 @@ It simulates one to eight nodes. Each has its book over files in memory: one cal
 synced is lost or torn. It has its agenda with the schedule, planned calls, deadlines and sweeps. Participants answer
 their calls, or don't, by the table of docs/HTTP.md. Pulls are complete messages over a network that delays, cuts off,
 loses and partitions. Nodes stop between any two calls of a disk, and start over the newest copy or an older one. Clocks
-jump. What a thread of the server does is one step here. Some lines repeat lines of the server: the heads of their files
-say which.
+jump. What a thread of the server does is one step here. What a node knows besides its journal is the value that the
+server drives too, `NodeState` of node_core. Some lines repeat lines of the server: the heads of their files say which.
 
 In half of the plays with several nodes, all want copies of their facts (docs/COPIES.md): in some of them strictly, and
 in some each start is told that the journal is lost. In these plays a disk may be lost too, so that its node starts over
 an empty one; or an empty disk may be in the place of a node's own for a while. A call may come into the middle of
-another call of the same node. And somebody may ask in another node's name, as if that had facts which nobody ever
-stored.
+another call of the same node. Some pulls wait until there is something new. And somebody may ask in another
+node's name, as if that had facts which nobody ever stored.
 
 After each step it checks these things. The node's pages and records say what its facts say, computed from a plain list
 of all facts that were applied. Statuses only rise, and commands are answered accordingly. The participants that are due

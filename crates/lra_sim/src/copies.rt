@@ -4,11 +4,10 @@
 mod checks;
 
 use crate::play::Play;
+use node_core::AskedPull;
 use sim_env::{Doubt, Halt, Luck, raised};
-use sim_node::{CallStep, CallSummary, Wants};
+use sim_node::Wants;
 use sim_runs::Runs;
-use state_book::Reply;
-use state_facts::Refusal;
 use state_ids::{Front, MAX_NODES, NodeId};
 use std::alloc::Global;
 
@@ -58,6 +57,16 @@ fn wants_by(luck: &mut Luck, nodes: u8) -> Wants {
         patience_ms: if is_short { 5_000 } else { 60_000 },
         is_strict: luck.is_one_in(3),
         is_anew: luck.is_one_in(3),
+    }
+}
+
+/// Returns a pull in this node's name with this front.
+fn asked_by(from: NodeId, front: Front) -> AskedPull {
+    AskedPull {
+        from,
+        front,
+        waits: false,
+        since: None,
     }
 }
 
@@ -112,6 +121,11 @@ impl Copies {
     /// Whether a node loses its disk now, given that it starts over an older copy anyway.
     pub fn loses_disk(&mut self) -> bool {
         self.wants.any() && self.luck.is_one_in(2)
+    }
+
+    /// Whether a pull of an open node that begins now waits until there is something new.
+    pub fn pull_waits(&mut self) -> bool {
+        self.wants.any() && self.luck.is_one_in(3)
     }
 
     /// Returns how many nodes besides the one at a place had this many facts of that one.
@@ -188,36 +202,14 @@ impl<R: Runs> Play<R> {
 
 /// Calls, each of which another call of the same node may fall into.
 impl<R: Runs> Play<R> {
-    /// Whether a worker's call is refused without being made.
-    pub fn is_refused(&mut self, place: usize, caller: usize, asked: &CallSummary) -> bool {
-        let now = self.now;
-        match self.life(place) {
-            Some(life) => caller > 0 && life.is_refused(asked, now),
-            None => true,
-        }
-    }
-
     /// Checks that nothing is stored for a client while copies are strict and others are behind.
     pub fn see_not_short(&mut self, place: usize) -> Result<(), Halt> {
         let (alloc, me, is_strict) = (self.alloc, self.me(place)?, self.copies.wants.is_strict);
         match self.life(place) {
-            Some(life) if is_strict && life.copying().is_short() => Err(not_refused(alloc, me)?),
+            Some(life) if is_strict && life.state().followers.is_short() => Err(not_refused(
+                alloc, me,
+            )?),
             _ => Ok(()),
-        }
-    }
-
-    /// Records that a call begins.
-    pub fn begin_step(&mut self, place: usize, caller: usize, asked: &CallSummary) -> CallStep {
-        match self.life(place) {
-            Some(life) => life.begin_step(asked, caller > 0),
-            None => CallStep::Other,
-        }
-    }
-
-    /// Records that a call is over that was refused, or wasn't made.
-    pub fn give_up_step(&mut self, place: usize, step: CallStep, refusal: Option<Refusal>) {
-        if let Some(life) = self.life(place) {
-            life.give_up_step(step, refusal);
         }
     }
 
@@ -235,26 +227,8 @@ impl<R: Runs> Play<R> {
         }
     }
 
-    /// Records that a call is over, with this reply. The answer of a worker may wait from now on.
-    pub fn end_step(
-        &mut self,
-        place: usize,
-        caller: usize,
-        step: CallStep,
-        own: u64,
-        reply: &Reply,
-    ) -> Result<(), Halt> {
-        let now = self.now;
-        let Some(life) = self.life(place) else {
-            return Ok(());
-        };
-        match life.end_step(step, caller > 0, reply, now) {
-            Some(ticket) => self.keep_answer(place, ticket, own),
-            None => Ok(()),
-        }
-    }
-
-    fn keep_answer(&mut self, place: usize, ticket: u64, own: u64) -> Result<(), Halt> {
+    /// Makes the answer of a worker wait for a ticket, if it isn't 0.
+    pub fn keep_answer(&mut self, place: usize, ticket: u64, own: u64) -> Result<(), Halt> {
         if !self.copies.wants.any() {
             return Ok(());
         }
@@ -299,7 +273,7 @@ impl<R: Runs> Play<R> {
             return Ok(());
         };
         if chosen != place && life.is_open() {
-            life.hear_copies(other, &claimed, now);
+            life.hear_other_name(&asked_by(other, claimed), now);
             self.copies.misled.push(place)?;
         }
         Ok(())

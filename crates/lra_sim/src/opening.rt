@@ -120,7 +120,7 @@ impl<R: Runs> Play<R> {
     /// Loses the facts of a node beyond the `count` that it has, except those that another node has
     /// received. What it sent and is still in transit is lost too.
     fn lose(&mut self, place: usize, me: NodeId, count: u64) -> Result<(), Halt> {
-        self.pulls.retain(|pull| pull.teller != place);
+        self.pulls.retain(|pull| pull.asked.teller != place);
         let known = self.known_of(me);
         self.forget_had(me, count.max(known));
         self.history.forget(me, count.max(known))
@@ -156,9 +156,9 @@ impl<R: Runs> Play<R> {
             return Ok(());
         };
         self.grow(place, run.front())?;
-        let until = self.now.saturating_add(PAUSE_MS);
+        let now = self.now;
         if let Some(node) = self.nodes.get_mut(place) {
-            node.reopen(run, until);
+            node.reopen(run, now, now.saturating_add(PAUSE_MS));
         }
         Ok(())
     }
@@ -166,7 +166,7 @@ impl<R: Runs> Play<R> {
     /// Closes the journal of a node, in the middle of a call or between two.
     fn shut(&mut self, place: usize, loses_power: bool, doubt: Doubt) -> Result<(), Halt> {
         match self.nodes.get_mut(place) {
-            Some(node) => node.shut(loses_power, doubt),
+            Some(node) => node.shut(loses_power, doubt, self.now),
             None => Err(nowhere()),
         }
     }
@@ -180,8 +180,9 @@ impl<R: Runs> Play<R> {
         Ok(())
     }
 
+    /// Ends the life of a node. The pulls that it made are lost, and those that it held.
     fn end_life(&mut self, place: usize) {
-        self.pulls.retain(|pull| pull.asker != place);
+        self.pulls.retain(|pull| pull.asked.asker != place && !pull.is_held_by(place));
         self.drop_answers(place);
         if let Some(node) = self.nodes.get_mut(place) {
             node.life = None;
@@ -202,7 +203,7 @@ impl<R: Runs> Play<R> {
 
     fn open_next(&mut self, place: usize) -> Result<Option<JournalOpening<R>>, Halt> {
         match self.nodes.get_mut(place) {
-            Some(node) => node.open_next(),
+            Some(node) => node.open_next(self.now),
             None => Err(nowhere()),
         }
     }
@@ -218,7 +219,7 @@ impl<R: Runs> Play<R> {
 
     fn go_on_with(&mut self, place: usize, run: R) -> Result<(), Halt> {
         match self.nodes.get_mut(place) {
-            Some(node) => node.go_on_with(run),
+            Some(node) => node.go_on_with(run, self.now),
             None => Err(nowhere()),
         }
     }

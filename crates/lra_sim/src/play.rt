@@ -2,6 +2,7 @@
 
 use crate::copies::Copies;
 use node_agenda::Keep;
+use node_core::NodeState;
 use sim_env::{Halt, History, Luck, Manner, Pull};
 use sim_node::{HOSTS, Life, SimNode, Wants};
 use sim_runs::Runs;
@@ -29,6 +30,8 @@ pub struct Play<R: Runs> {
     pub is_quiet: bool,
     pub steps: u64,
     pub copies: Copies,
+    /// The state to which a call is handed back whose node stopped in the middle of it.
+    pub gone: NodeState,
     told: VecDeque<String>,
     most: usize,
 }
@@ -80,6 +83,15 @@ fn new_node<R: Runs>(
     SimNode::new(alloc, number, nodes, Keep { ended, failed }, wants, skew)
 }
 
+/// Makes the state of a node that doesn't run.
+fn new_gone(alloc: Global) -> Result<NodeState, Halt> {
+    let keep = Keep {
+        ended: None,
+        failed: None,
+    };
+    Ok(Wants::none().new_state(alloc, NodeId::new(1)?, 1, keep, false))
+}
+
 fn new_nodes<R: Runs>(
     alloc: Global,
     luck: &mut Luck,
@@ -120,6 +132,7 @@ impl<R: Runs> Play<R> {
             is_quiet: false,
             steps: 0,
             copies,
+            gone: new_gone(alloc)?,
             told: VecDeque::new(alloc),
             most,
         })

@@ -1,12 +1,15 @@
-// Pulls between nodes. The rule by which a pull waits is that of node_server/src/run/pull_holder.rt.
+// Pulls between nodes.
 
-use crate::play::{Play, nowhere};
+use crate::play::Play;
+use node_core::AskedPull;
 use node_inbox::{Telling, ask_for};
-use sim_env::{Halt, Pull, PullStage};
+use node_replication::PullDecision;
+use sim_env::{Halt, Pull, PullAsked, PullStage};
 use sim_runs::Runs;
 use state_book::{Call, Reply};
 use state_ids::{Front, MAX_NODES, NodeId};
 use std::alloc::Global;
+use std::time::Duration;
 use wire_frames::{Delta, encode};
 use wire_http::{Bytes, OverRead, OverWrite};
 use wire_pulls::{front_of_pull, pull_body};
@@ -48,14 +51,22 @@ fn owed_for_ever(alloc: Global, from: NodeId) -> Result<Halt, Halt> {
 }
 
 impl<R: Runs> Play<R> {
-    /// Returns the front from which a node pulls, once the node knows what it has.
-    fn counted(&mut self, place: usize) -> Option<Front> {
-        self.life(place)?.counted()
+    /// Returns the front from which a node pulls from another one, once it knows what it has, and
+    /// how often that one has begun anew, as far as it knows.
+    fn asks_from(&mut self, asker: usize, other: NodeId) -> Option<(Front, u64)> {
+        self.life(asker)?.asks_from(other)
+    }
+
+    fn is_open(&self, place: usize) -> bool {
+        match self.nodes.get(place) {
+            Some(node) => node.is_open(),
+            None => false,
+        }
     }
 
     fn is_pulling(&self, asker: usize, teller: usize) -> bool {
         for pull in self.pulls.iter() {
-            if pull.asker == asker && pull.teller == teller {
+            if pull.asked.asker == asker && pull.asked.teller == teller {
                 return true;
             }
         }
@@ -77,16 +88,38 @@ impl<R: Runs> Play<R> {
         if asker == teller || self.is_pulling(asker, teller) || self.queues(asker, teller)? {
             return Ok(());
         }
-        let Some(front) = self.counted(asker) else {
+        let other = self.me(teller)?;
+        let Some((front, anew)) = self.asks_from(asker, other) else {
             return Ok(());
         };
-        self.pulls.push(Pull {
+        let waits = self.is_open(asker) && self.copies.pull_waits();
+        let asked = PullAsked {
             asker,
             teller,
             front,
-            stage: PullStage::Asked,
+            anew,
+            waits,
+        };
+        self.send(&asked, PullStage::Asked)
+    }
+
+    /// Sends a pull on its way, or holds it.
+    fn send(&mut self, asked: &PullAsked, stage: PullStage) -> Result<(), Halt> {
+        self.pulls.push(Pull {
+            asked: *asked,
+            stage,
         })?;
         Ok(())
+    }
+
+    /// Whether a pull is lost now. One that waits isn't, while it is held: it is looked at often.
+    fn is_lost(&mut self, pull: &Pull) -> bool {
+        let asked = pull.asked;
+        if self.is_cut(asked.asker, asked.teller) {
+            return true;
+        }
+        let is_safe = asked.waits && pull.is_held_by(asked.teller);
+        !self.is_quiet && !is_safe && self.luck.is_one_in(10)
     }
 
     /// Takes a pull one stage further: it is served, or comes back, or is lost.
@@ -94,114 +127,81 @@ impl<R: Runs> Play<R> {
         if chosen >= self.pulls.len() {
             return Ok(());
         }
-        let Pull {
-            asker,
-            teller,
-            front,
-            stage,
-        } = self.pulls.remove(chosen);
-        if self.is_cut(asker, teller) || (!self.is_quiet && self.luck.is_one_in(10)) {
+        let pull = self.pulls.remove(chosen);
+        if self.is_lost(&pull) {
             return Ok(());
         }
+        let Pull { asked, stage } = pull;
         match stage {
-            PullStage::Asked => self.hear_pull(asker, teller, front),
-            PullStage::Held => self.serve(asker, teller, front),
-            PullStage::Answered(bytes) => self.hear_answer(asker, teller, front, bytes),
+            PullStage::Asked => self.hear_pull(&asked, None),
+            PullStage::Held { since } => self.hear_pull(&asked, Some(since)),
+            PullStage::Answered(bytes) => self.hear_answer(&asked, bytes),
         }
     }
 
-    /// Whether the node that is asked owes the asking node facts of that node's own: it has
-    /// received them and not stored them. Checks that it owes nothing that was given up.
-    fn is_owed(&mut self, asker: usize, teller: usize, front: &Front) -> Result<bool, Halt> {
-        let from = self.me(asker)?;
-        let Some(life) = self.life(teller) else {
-            return Ok(false);
+    /// Lets the node that is asked hear a pull, for the first time or again, and serves it unless it
+    /// waits.
+    fn hear_pull(&mut self, asked: &PullAsked, since: Option<u64>) -> Result<(), Halt> {
+        let decision = self.decide(asked, since)?;
+        if decision == PullDecision::Serve {
+            return self.serve(asked);
+        }
+        let since = since.unwrap_or(self.now);
+        self.send(asked, PullStage::Held { since })
+    }
+
+    /// Returns what the node that is asked does with a pull. Checks that the node owes nothing that
+    /// was given up. One that doesn't run serves nothing.
+    fn decide(&mut self, asked: &PullAsked, since: Option<u64>) -> Result<PullDecision, Halt> {
+        let (from, now) = (self.me(asked.asker)?, self.now);
+        let body = pull_body(self.alloc, &asked.front)?;
+        let front = front_told(self.count(), body.as_slice())?;
+        let Some(life) = self.life(asked.teller) else {
+            return Ok(PullDecision::Serve);
         };
-        let (is_owed, waits) = (life.is_owed(from, front), life.waits_for(from));
-        if is_owed && !waits {
+        let (is_owed, waits_for) = (life.is_owed(from, &front), life.waits_for(from));
+        let pull = AskedPull {
+            from,
+            front,
+            waits: asked.waits,
+            since: since.map(Duration::from_millis),
+        };
+        let decision = life.hear_pull(&pull, now)?;
+        if is_owed && !waits_for {
             return Err(owed_for_ever(self.alloc, from)?);
         }
-        Ok(is_owed)
+        Ok(decision)
     }
 
-    /// Lets the node that is asked hear a pull and what its asker counts, and serves it.
-    fn hear_pull(&mut self, asker: usize, teller: usize, front: Front) -> Result<(), Halt> {
-        let body = pull_body(self.alloc, &front)?;
-        let told = front_told(self.count(), body.as_slice())?;
-        let (other, now) = (self.me(asker)?, self.now);
-        if let Some(life) = self.life(teller) {
-            life.hear_copies(other, &told, now);
-        }
-        self.hear_claim(teller, asker, &told)?;
-        self.serve(asker, teller, front)
-    }
-
-    /// Lets a worker of the node that is asked serve a pull, unless the pull has to wait.
-    fn serve(&mut self, asker: usize, teller: usize, front: Front) -> Result<(), Halt> {
-        if self.is_owed(asker, teller, &front)? {
-            self.pulls.push(Pull {
-                asker,
-                teller,
-                front,
-                stage: PullStage::Held,
-            })?;
-            return Ok(());
-        }
-        let body = pull_body(self.alloc, &front)?;
-        let reply = self.call(teller, SERVES, Call::Pull(Bytes::new(body)))?;
+    /// Lets a worker of the node that is asked serve a pull.
+    fn serve(&mut self, asked: &PullAsked) -> Result<(), Halt> {
+        let body = pull_body(self.alloc, &asked.front)?;
+        let reply = self.call(asked.teller, SERVES, Call::Pull(Bytes::new(body)))?;
         let Some(Reply::Gave(delta)) = &reply else {
             return Ok(());
         };
-        self.answer(asker, teller, front, delta)
-    }
-
-    fn hear_claim(&mut self, teller: usize, asker: usize, told: &Front) -> Result<(), Halt> {
-        let (me, other) = (self.me(teller)?, self.me(asker)?);
-        match self.life(teller) {
-            Some(life) => life.hear_claim(me, other, told),
-            None => Ok(()),
-        }
+        self.answer(asked, delta)
     }
 
     /// Sends the response to a pull on its way. It may be cut off.
-    fn answer(
-        &mut self,
-        asker: usize,
-        teller: usize,
-        front: Front,
-        delta: &Delta,
-    ) -> Result<(), Halt> {
+    fn answer(&mut self, asked: &PullAsked, delta: &Delta) -> Result<(), Halt> {
         let mut bytes = response_of(self.alloc, delta)?;
         if !self.is_quiet && self.luck.is_one_in(12) {
             bytes.truncate(self.luck.place(bytes.len()));
         }
-        self.pulls.push(Pull {
-            asker,
-            teller,
-            front,
-            stage: PullStage::Answered(bytes),
-        })?;
-        Ok(())
+        self.send(asked, PullStage::Answered(bytes))
     }
 
     /// Handles the bytes that another node sent.
-    fn hear_answer(
-        &mut self,
-        asker: usize,
-        teller: usize,
-        front: Front,
-        bytes: Vec<u8>,
-    ) -> Result<(), Halt> {
-        let (other, me) = (self.me(teller)?, self.me(asker)?);
+    fn hear_answer(&mut self, asked: &PullAsked, bytes: Vec<u8>) -> Result<(), Halt> {
+        let (teller, front) = (asked.teller, asked.front);
+        let other = self.me(teller)?;
         let Some(telling) = told_by(self.alloc, other, &front, bytes.as_slice()) else {
             return Ok(());
         };
-        let Some(node) = self.nodes.get_mut(asker) else {
-            return Err(nowhere());
-        };
-        let Some(life) = node.life.as_mut() else {
-            return Ok(());
-        };
-        life.hear_telling(me, teller, telling)
+        match self.life(asked.asker) {
+            Some(life) => life.hear_telling(teller, &front, asked.anew, telling),
+            None => Ok(()),
+        }
     }
 }

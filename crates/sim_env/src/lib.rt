@@ -22,5 +22,5 @@ pub use history::History;
 pub use known_facts::{KnownFacts, Shown};
 pub use luck::Luck;
 pub use model::{DueCall, Model};
-pub use network::{Manner, Pull, PullStage};
+pub use network::{Manner, Pull, PullAsked, PullStage};
 pub use old_disks::{DiskCopies, raised};

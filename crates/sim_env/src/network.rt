@@ -11,21 +11,38 @@ use wire_callbacks::Kind;
 pub enum PullStage {
     /// The request is in transit.
     Asked,
-    /// The request has come, and waits.
-    Held,
+    /// The request has come at this moment, and waits.
+    Held { since: u64 },
     /// The response is in transit, with these bytes.
     Answered(Vec<u8>),
 }
 
-/// A pull in transit.
-#[derive(Drop)]
-pub struct Pull {
+/// What a pull asks.
+#[derive(Clone, Copy)]
+pub struct PullAsked {
     /// The places of the node that pulls and of the node that is asked.
     pub asker: usize,
     pub teller: usize,
     /// The facts that the pulling node has.
     pub front: Front,
+    /// How often the node that is asked had begun anew, as far as the pulling node knew.
+    pub anew: u64,
+    /// Whether it waits until there is something new.
+    pub waits: bool,
+}
+
+/// A pull in transit.
+#[derive(Drop)]
+pub struct Pull {
+    pub asked: PullAsked,
     pub stage: PullStage,
+}
+
+impl Pull {
+    /// Whether the node at a place holds it.
+    pub fn is_held_by(&self, place: usize) -> bool {
+        self.asked.teller == place && matches!(&self.stage, PullStage::Held { .. })
+    }
 }
 
 /// How a host answers.

@@ -1,6 +1,7 @@
 // What has to be known about calls, commands, facts and replies.
 
-use node_effects::{body_of_all, enters, freed_by, heard_by, is_completion};
+use node_core::{AskedCall, CallResult};
+use node_effects::{body_of_all, enters, freed_by, heard_by, is_completion, noted_by, result_of};
 use node_schedule::Called;
 use sim_env::Halt;
 use state_book::{Call, Reply};
@@ -18,9 +19,10 @@ pub struct CallSummary {
     /// Whether it asks for a frame.
     pub pulls: bool,
     pub enters: bool,
-    pub completes: bool,
-    pub freed: Option<LraId>,
-    pub heard: Option<Called>,
+    is_move: bool,
+    completes: bool,
+    freed: Option<LraId>,
+    heard: Option<Called>,
 }
 
 fn command_in(call: &Call) -> Result<Option<Command>, AllocError> {
@@ -50,10 +52,25 @@ impl CallSummary {
             is_sweep: is_sweep(call),
             pulls: matches!(call, Call::Pull(_)),
             enters: enters(call),
+            is_move: call.is_move(),
             completes: is_completion(call),
             freed: freed_by(call),
             heard: heard_by(call),
         })
+    }
+
+    /// Returns what a node's state needs to know of the call before it is made.
+    pub fn asked(&self) -> AskedCall {
+        AskedCall {
+            enters: self.enters,
+            pulls: self.pulls,
+        }
+    }
+
+    /// Returns what a node's state needs to know of its reply.
+    pub fn result(&self, reply: &Reply) -> CallResult {
+        let effects = noted_by(self.completes, &self.freed, &self.heard, reply);
+        result_of(effects, 1, self.is_move, reply)
     }
 }
 

@@ -4,14 +4,16 @@
 
 mod call_summary;
 mod checks;
-mod copying;
 mod due;
 mod life;
+mod listings;
 mod node;
 mod start;
+mod wants;
 
 pub use call_summary::{CallSummary, body_of, cancel, named_in, pull_of_all, stored, taken_by};
-pub use copying::{CallStep, CopyState, Release, Wants};
 pub use due::{HOSTS, due_call, host_of};
 pub use life::Life;
+pub use listings::Release;
 pub use node::SimNode;
+pub use wants::Wants;

@@ -1,24 +1,26 @@
 // The state of a node from a start to the next stop.
 
+mod copies;
 mod pulls;
 
 use crate::call_summary::CallSummary;
-use crate::copying::{CopyState, ReleasedList, Wants};
-use crate::due::{host_of, is_among, is_same};
+use crate::due::host_of;
+use crate::listings::Listings;
 use crate::start::Start;
-use node_agenda::{Keep, MailboxState, OperatorWant, Sweeping, Task};
-use node_effects::{is_any, noted_by, purged_by};
+use crate::wants::Wants;
+use node_agenda::{Keep, OperatorWant, Task};
+use node_core::{Admission, CallResult, Caller, NodeState};
+use node_effects::purged_by;
 use node_inbox::{Letter, Telling, Unheard};
 use node_schedule::StartedCall;
 use sim_env::{DueCall, Halt};
 use sim_runs::Runs;
 use state_book::{Call, Reply, Survey};
 use state_facts::Refusal;
-use state_ids::{Front, LraId, LraStatus, MAX_NODES, NodeId};
+use state_ids::{Front, LraId, NodeId};
 use std::alloc::Global;
 use std::time::Duration;
 use wire_callbacks::Duties;
-use wire_frames::Delta;
 
 /// The number of caller threads of a node.
 const CALLERS: usize = 4;
@@ -50,10 +52,10 @@ struct Awaited {
 /// The state of a node from a start to the next stop.
 #[derive(Drop)]
 pub struct Life<R: Runs> {
-    alloc: Global,
     me: NodeId,
     run: Option<R>,
-    state: MailboxState,
+    /// What it knows besides its journal. The server drives the same type.
+    state: NodeState,
     /// What the writer thread is about to do.
     task: Option<Task>,
     calls: Vec<InFlight>,
@@ -61,13 +63,8 @@ pub struct Life<R: Runs> {
     errand: Option<PlannedCall>,
     /// What others sent that is neither taken nor given up, as the checks know it.
     awaited: Vec<Awaited>,
-    /// The calls of the newest list whose participants haven't answered since, or whose answers
-    /// aren't stored yet.
-    listed: Vec<DueCall>,
+    listings: Listings,
     start: Start,
-    /// Whether it was told that its journal is lost, or isn't the newest.
-    is_anew: bool,
-    copying: CopyState,
 }
 
 /// Returns a moment of the monotonic clock.
@@ -87,17 +84,11 @@ impl<R: Runs> Life<R> {
         is_anew: bool,
         wants: Wants,
     ) -> Life<R> {
-        let nodes = nodes.clamp(1, MAX_NODES);
-        let are_apart = nodes > 1;
-        let sweeping = Sweeping::new(alloc, me, keep, are_apart, true);
-        let own = run.front().count(me);
-        let mut state = MailboxState::new(alloc, me, nodes, are_apart, is_anew, sweeping);
-        let is_empty = wants.any() && own == 0;
-        if is_empty {
-            state.wait_for_all();
-        }
+        let front = run.front();
+        let is_empty = wants.any() && front.count(me) == 0;
+        let mut state = wants.new_state(alloc, me, nodes, keep, is_anew);
+        state.start(&front);
         Life {
-            alloc,
             me,
             run: Some(run),
             state,
@@ -105,11 +96,14 @@ impl<R: Runs> Life<R> {
             calls: Vec::new(alloc),
             errand: None,
             awaited: Vec::new(alloc),
-            listed: Vec::new(alloc),
+            listings: Listings::new(alloc),
             start: Start::new(alloc, now, is_anew || is_empty),
-            is_anew,
-            copying: CopyState::new(me, nodes, wants, own, is_anew),
         }
+    }
+
+    /// Returns what it knows besides its journal.
+    pub fn state(&self) -> &NodeState {
+        &self.state
     }
 
     /// Whether the journal is closed.
@@ -119,7 +113,7 @@ impl<R: Runs> Life<R> {
 
     /// Whether the node may store something of its own.
     pub fn is_open(&self) -> bool {
-        self.state.is_open()
+        self.state.mail.is_open()
     }
 
     /// Returns when the life began.
@@ -134,25 +128,45 @@ impl<R: Runs> Life<R> {
     }
 
     /// Takes the run of the journal, which is closed after that.
-    pub fn take_run(&mut self) -> Option<R> {
-        self.run.take()
+    pub fn take_run(&mut self, now: u64) -> Option<R> {
+        let run = self.run.take()?;
+        self.state.followers.note_end(at(now));
+        Some(run)
     }
 
     /// Goes on with the next run.
-    pub fn put_run(&mut self, run: R) {
+    pub fn put_run(&mut self, run: R, now: u64) {
+        self.state.followers.note_begun(at(now));
         self.run = Some(run);
     }
 
     /// Goes on with a run over a journal that was opened again. Nothing is stored until the given
     /// moment.
-    pub fn reopen(&mut self, run: R, until: u64) {
-        self.state.hold_until(at(until));
-        self.put_run(run);
+    pub fn reopen(&mut self, run: R, now: u64, until: u64) {
+        self.state.mail.hold_until(at(until));
+        self.put_run(run, now);
     }
 
-    /// Whether a call that stores something is held back.
-    fn is_held(&self, now: u64) -> bool {
-        !self.state.is_open() || self.state.is_spared(at(now))
+    /// Admits a call by the thread with this pass, of a worker or of the writer thread, unless the
+    /// call is refused.
+    pub fn admit(&mut self, caller: usize, asked: &CallSummary, now: u64) -> Option<Admission> {
+        let whose = if caller > 0 {
+            Caller::Worker
+        } else {
+            Caller::Writer
+        };
+        self.state.admit(whose, asked.asked(), caller, at(now))
+    }
+
+    /// Records that an admitted call is over, and had this result. Returns the ticket that the
+    /// answer of a worker waits for, or 0, if there is an answer.
+    pub fn settle(&mut self, admission: Admission, came: &CallResult, now: u64) -> Option<u64> {
+        self.state.settle(admission, came, at(now))
+    }
+
+    /// Records that an admitted call is over that was refused, or wasn't made.
+    pub fn give_up(&mut self, admission: Admission, has_failed: bool) {
+        self.state.give_up(admission, has_failed);
     }
 
     /// Makes a call. Returns no reply if the journal is closed.
@@ -163,22 +177,6 @@ impl<R: Runs> Life<R> {
         match run.call(caller, call, unix) {
             Ok(reply) => Ok(Some(reply)),
             Err(refusal) => Err(refusal),
-        }
-    }
-
-    fn learn(&mut self, delta: &Delta) {
-        self.state.learn(&delta.front());
-        self.state.note_counted();
-    }
-
-    /// Hands the effects of a call to the other threads.
-    pub fn note(&mut self, asked: &CallSummary, reply: &Reply, now: u64) {
-        let noted = noted_by(asked.completes, &asked.freed, &asked.heard, reply);
-        if is_any(&noted) {
-            self.state.note(&noted, at(now));
-        }
-        if let Reply::Gave(delta) = reply {
-            self.learn(delta);
         }
     }
 
@@ -206,105 +204,84 @@ impl<R: Runs> Life<R> {
 
     /// Returns what it does next, if the journal is open.
     pub fn next_task(&mut self, now: u64) -> Task {
-        self.put_held(now);
-        let now = at(now);
-        let _opens = self.state.open_if_due(now);
-        let _may_call = self.state.resume_calls(now);
-        let task = self.state.next_task(now);
-        if matches!(&task, Task::Ask) && self.copying.puts_off() {
-            return Task::Rest;
-        }
-        task
+        self.ready(now);
+        self.state.next_task(at(now))
+    }
+
+    /// Readies what is due by now.
+    fn ready(&mut self, now: u64) {
+        let followers = &self.state.followers;
+        let (was_held, late) = (followers.holds_calls(), followers.late());
+        let readied = self.state.ready(at(now));
+        let followers = &self.state.followers;
+        let (is_let_go, is_late) = (
+            was_held && !followers.holds_calls(),
+            followers.late() > late,
+        );
+        self.listings.note_ready(&readied, is_let_go, is_late);
     }
 
     /// Ends a letter: the answer is stored, or the letter waits again.
     pub fn end_letter(&mut self, letter: Letter, who: &DueCall, is_entered: bool, now: u64) {
         if !is_entered {
-            self.state.put_letter(letter);
+            self.state.mail.put_letter(letter);
             return;
         }
-        self.state.note_entered(&letter, at(now));
-        self.listed.retain(|listed| !is_same(listed, who));
+        self.state.mail.note_entered(&letter, at(now));
+        self.listings.end(who);
     }
 
     /// Ends a telling of another node: it was taken here, or is given up.
     pub fn end_telling(&mut self, from: NodeId, front: &Front, known: &Front, is_taken: bool) {
-        let own = front.count(self.me);
-        if is_taken && own > known.count(self.me) {
-            self.copying.note_taken_back(own);
-        }
         self.forget_awaited(from, front);
-        self.state.end_telling(front, is_taken);
+        self.state
+            .end_telling(front, known.count(self.me), is_taken);
     }
 
     /// Makes a telling wait again that couldn't be taken.
     pub fn keep_telling(&mut self, telling: Telling, now: u64) {
-        let left = self.state.keep_telling(telling, at(now));
+        let left = self.state.mail.keep_telling(telling, at(now));
         self.forget_left(left);
     }
 
     /// Shows the sweep what a page lists.
     pub fn see_survey(&mut self, survey: &Survey, now: u64) {
         for row in survey.rows() {
-            self.state.see(at(now), row.id, row.status, row.tree);
+            self.state.mail.see(at(now), row.id, row.status, row.tree);
         }
-        self.state.turn(survey.more());
+        self.state.mail.turn(survey.more());
     }
 
     /// Ends the purge of a root that is purged on its own, and that had this reply.
     pub fn end_sweep(&mut self, root: LraId, reply: &Reply, now: u64) {
-        self.state.purged(at(now), root, purged_by(reply));
+        self.state.mail.purged(at(now), root, purged_by(reply));
     }
 
     /// Makes the number of the node's facts be asked for again.
     pub fn want_count(&mut self) {
-        self.state.want_count();
+        self.state.mail.want_count();
     }
 
     /// Records that a list of duties is asked for now.
     pub fn begin_list(&mut self, now: u64) {
-        self.state.begin_list(at(now));
+        self.state.mail.begin_list(at(now));
     }
 
     /// Makes a new list of duties be asked for.
     pub fn stir(&mut self) {
-        self.state.stir(false);
+        self.state.mail.stir(false);
     }
 
     /// Records that an LRA was cancelled for its deadline, so another may be overdue.
     pub fn tick(&mut self) {
-        self.state.tick();
+        self.state.mail.tick();
     }
 
-    /// Puts the newest list of duties, which has these calls and may show `own` facts, once other
-    /// nodes have these.
+    /// Takes the newest list of duties, which has these calls and may show `own` facts. It is put
+    /// once other nodes have these.
     pub fn put_duties(&mut self, duties: Duties, listed: Vec<DueCall>, own: u64, now: u64) {
-        if let Some(released) = self.copying.keep_list(duties, listed, own, now) {
-            self.put_released(released, now);
-        }
-    }
-
-    /// Puts the list that has waited for copies, if it waits no longer.
-    fn put_held(&mut self, now: u64) {
-        let empty = Vec::new(self.alloc);
-        if let Some(released) = self.copying.take_list(now, empty) {
-            self.put_released(released, now);
-        }
-    }
-
-    fn put_released(&mut self, released: ReleasedList, now: u64) {
-        let ReleasedList {
-            duties,
-            listed,
-            asks_again,
-        } = released;
-        if let Some(duties) = duties {
-            self.listed = listed;
-            self.state.put_duties(duties, at(now));
-        }
-        if asks_again {
-            self.state.stir(false);
-        }
+        let is_put = self.state.put_duties(duties, at(now));
+        self.listings.keep(listed, own, is_put);
     }
 }
 
@@ -319,10 +296,10 @@ impl<R: Runs> Life<R> {
                     call,
                     until: now.saturating_add(ERRAND_MS),
                 });
-                self.state.want(wanted);
+                self.state.mail.want(wanted);
             }
             Some(errand) => {
-                if now >= errand.until && self.state.take_back() {
+                if now >= errand.until && self.state.mail.take_back() {
                     self.errand = None;
                 }
             }
@@ -358,15 +335,15 @@ impl<R: Runs> Life<R> {
 
     /// Whether the newest list has this call.
     pub fn is_listed(&self, who: &DueCall) -> bool {
-        is_among(&self.listed, who)
+        self.listings.has(who)
     }
 
     /// Takes the participant that is called next, if a thread is free.
     pub fn take_due(&mut self) -> Option<StartedCall> {
-        if self.calls.len() >= CALLERS || !self.state.may_call() {
+        if self.calls.len() >= CALLERS || !self.state.mail.may_call() {
             return None;
         }
-        self.state.take_due()
+        self.state.mail.take_due()
     }
 
     /// Begins a call.
@@ -394,6 +371,6 @@ impl<R: Runs> Life<R> {
 
     /// Records the result of a call that took this many milliseconds.
     pub fn hear(&mut self, time: u64, came: Result<Letter, Unheard>, now: u64) {
-        let _plight = self.state.hear(at(time), came, at(now));
+        let _plight = self.state.mail.hear(at(time), came, at(now));
     }
 }

@@ -1,8 +1,8 @@
 // A simulated node: what outlives its lives, and what the simulator knows about it.
 
 use crate::call_summary::{CallSummary, body_of, cancel};
-use crate::copying::Wants;
 use crate::life::Life;
+use crate::wants::Wants;
 use node_agenda::Keep;
 use sim_env::{DiskCopies, DiskFaults, Doubt, Halt, History, KnownFacts, Luck, Remains, raised};
 use sim_runs::{JournalOpening, Runs};
@@ -162,25 +162,12 @@ impl<R: Runs> SimNode<R> {
         }
     }
 
-    /// Makes a call of one of the node's threads, and hands on its effects.
-    pub fn make(
-        &mut self,
-        caller: usize,
-        call: Call,
-        asked: &CallSummary,
-        now: u64,
-    ) -> Result<Option<Reply>, Refusal> {
+    /// Makes a call of one of the node's threads. Returns no reply if the journal is closed.
+    pub fn make(&mut self, caller: usize, call: Call, now: u64) -> Result<Option<Reply>, Refusal> {
         let unix = self.unix(now);
-        let Some(life) = self.life.as_mut() else {
-            return Ok(None);
-        };
-        match life.make(caller, call, unix) {
-            Ok(Some(reply)) => {
-                life.note(asked, &reply, now);
-                Ok(Some(reply))
-            }
-            Ok(None) => Ok(None),
-            Err(refusal) => Err(refusal),
+        match self.life.as_mut() {
+            Some(life) => life.make(caller, call, unix),
+            None => Ok(None),
         }
     }
 
@@ -278,15 +265,15 @@ impl<R: Runs> SimNode<R> {
     }
 
     /// Goes on over the journal, which is open again. Nothing is stored until the given moment.
-    pub fn reopen(&mut self, run: R, until: u64) {
+    pub fn reopen(&mut self, run: R, now: u64, until: u64) {
         if let Some(life) = self.life.as_mut() {
-            life.reopen(run, until);
+            life.reopen(run, now, until);
         }
     }
 
-    fn take_run(&mut self) -> Option<R> {
+    fn take_run(&mut self, now: u64) -> Option<R> {
         match self.life.as_mut() {
-            Some(life) => life.take_run(),
+            Some(life) => life.take_run(now),
             None => None,
         }
     }
@@ -303,8 +290,8 @@ impl<R: Runs> SimNode<R> {
     }
 
     /// Closes the node's journal, if it is open.
-    pub fn shut(&mut self, loses_power: bool, doubt: Doubt) -> Result<(), Halt> {
-        let Some(run) = self.take_run() else {
+    pub fn shut(&mut self, loses_power: bool, doubt: Doubt, now: u64) -> Result<(), Halt> {
+        let Some(run) = self.take_run(now) else {
             return Ok(());
         };
         match run.close() {
@@ -314,8 +301,8 @@ impl<R: Runs> SimNode<R> {
     }
 
     /// Ends the node's run, if one is on, and opens the next, over the same files.
-    pub fn open_next(&mut self) -> Result<Option<JournalOpening<R>>, Halt> {
-        let Some(run) = self.take_run() else {
+    pub fn open_next(&mut self, now: u64) -> Result<Option<JournalOpening<R>>, Halt> {
+        let Some(run) = self.take_run(now) else {
             return Ok(None);
         };
         match run.next(self.alloc, self.me, self.nodes) {
@@ -325,10 +312,10 @@ impl<R: Runs> SimNode<R> {
     }
 
     /// Goes on with the next run, after checking that its book has what the last one had.
-    pub fn go_on_with(&mut self, run: R) -> Result<(), Halt> {
+    pub fn go_on_with(&mut self, run: R, now: u64) -> Result<(), Halt> {
         let (had, has) = (self.front(), run.front());
         if let Some(life) = self.life.as_mut() {
-            life.put_run(run);
+            life.put_run(run, now);
         }
         self.see_next_run(had, has)
     }

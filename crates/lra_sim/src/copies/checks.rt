@@ -1,6 +1,5 @@
 // The checks of what goes out: that enough other nodes had what an answer or a list of duties
-// shows, and that it is still there once a disk was lost. What happens to an answer is what `stand`
-// of node_server/src/run/pull_holder.rt says.
+// shows, and that it is still there once a disk was lost.
 
 use crate::copies::Answer;
 use crate::play::{Play, nowhere};
@@ -26,6 +25,12 @@ fn too_late(alloc: Global, me: NodeId) -> Result<Halt, Halt> {
 fn dropped(alloc: Global, me: NodeId) -> Result<Halt, Halt> {
     Ok(Halt::Found(format!(in alloc;
         "node {me} neither calls the participants on a list that it held, nor asks for a new one"
+    )?))
+}
+
+fn not_held(alloc: Global, me: NodeId) -> Result<Halt, Halt> {
+    Ok(Halt::Found(format!(in alloc;
+        "node {me} calls the participants on a list that it didn't hold"
     )?))
 }
 
@@ -101,6 +106,7 @@ impl<R: Runs> Play<R> {
                 Err(too_late(self.alloc, self.me(place)?)?)
             }
             Some(Release::Dropped) => Err(dropped(self.alloc, self.me(place)?)?),
+            Some(Release::Unknown) => Err(not_held(self.alloc, self.me(place)?)?),
             _ => Ok(()),
         }
     }
@@ -151,10 +157,10 @@ impl<R: Runs> Play<R> {
             let Some(life) = self.life(place) else {
                 continue;
             };
-            if life.copying().is_doubted() {
+            if life.state().followers.is_doubted() {
                 return Err(doubted(alloc, me)?);
             }
-            if life.copying().has_strange() && !is_misled {
+            if life.state().followers.has_strange() && !is_misled {
                 return Err(strange(alloc, me)?);
             }
         }
@@ -165,7 +171,10 @@ impl<R: Runs> Play<R> {
     pub fn is_all_out(&self) -> bool {
         for node in self.nodes.iter() {
             let is_stuck = match &node.life {
-                Some(life) => life.copying().refuses() || life.copying().holds_calls(),
+                Some(life) => {
+                    let followers = &life.state().followers;
+                    followers.refuses() || followers.holds_calls()
+                }
                 None => false,
             };
             if is_stuck {
