@@ -94,7 +94,7 @@ impl<R: Runs> Play<R> {
         let Some((asked, admission)) = self.begin_asked(place, caller, &call)? else {
             return Ok(None);
         };
-        let is_followed = asked.enters || (asked.pulls && caller > 0);
+        let is_followed = asked.notes.asked.enters || (asked.notes.asked.pulls && caller > 0);
         let fallen = self.fall_into(place, caller > 0);
         let admission = self.go_on_admitted(place, admission, fallen)?;
         let Some(made) = self.make_begun(place, caller, call, asked, admission)? else {
@@ -169,10 +169,10 @@ impl<R: Runs> Play<R> {
         caller: usize,
         asked: &CallSummary,
     ) -> Result<(), Halt> {
-        if caller > 0 && asked.enters {
+        if caller > 0 && asked.notes.asked.enters {
             self.see_not_short(place)?;
         }
-        if caller > 0 && !asked.pulls {
+        if caller > 0 && !asked.notes.asked.pulls {
             self.see_mounted(place)?;
         }
         Ok(())
@@ -209,7 +209,7 @@ impl<R: Runs> Play<R> {
         admission: Admission,
         reply: Reply,
     ) -> Result<MadeCall, Halt> {
-        let came = asked.result(&reply);
+        let came = asked.notes.result(&reply);
         let entered = self.enter_reply(place, asked, &reply);
         let admission = self.go_on_admitted(place, admission, entered)?;
         let own = self.own(place);

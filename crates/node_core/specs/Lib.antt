@@ -1,4 +1,5 @@
 pub mod Calls
+pub mod Counts
 pub mod Desks
 pub mod Doubts
 pub mod Nodes

@@ -5,6 +5,7 @@
 
 mod admitting;
 mod calls;
+mod counts;
 mod desk_watch;
 pub mod laws;
 mod node_state;
@@ -14,6 +15,10 @@ mod run_tally;
 mod turns;
 
 pub use calls::{Admission, AskedCall, CallResult, Caller, ReplyKind};
+pub use counts::{
+    CALL_NAMES, CallKind, HEARD, KINDS, NodeCounts, PULLS, PullResult, REFUSALS, RUNS, RunEnd,
+    SWEPT,
+};
 pub use desk_watch::DeskWatch;
 pub use node_state::{NodeSettings, NodeState, Unready};
 pub use peers::Peers;

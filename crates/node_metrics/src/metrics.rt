@@ -1,7 +1,8 @@
 // Writes the counts of a node in the text format of Prometheus, version 0.0.4.
 
+use node_core::{CALL_NAMES, HEARD, KINDS, NodeCounts, PULLS, REFUSALS, RUNS, SWEPT};
 use node_sockets::now;
-use node_threads::{Build, CALL_NAMES, HEARD, KINDS, Node, Numbers, PULLS, REFUSALS, RUNS, SWEPT};
+use node_threads::{Build, Node};
 use state_forest::MAX_HELD;
 use state_ids::{LraStatus, MAX_NODES, NodeId};
 use std::alloc::{AllocError, Global};
@@ -104,7 +105,7 @@ impl MetricsPage {
     }
 }
 
-fn push_refusals(page: &mut MetricsPage, numbers: &Numbers) -> Result<(), AllocError> {
+fn push_refusals(page: &mut MetricsPage, numbers: &NodeCounts) -> Result<(), AllocError> {
     let name = "lra_refused_total";
     page.family(name, "counter", "Calls that were refused.")?;
     for place in 0..REFUSALS {
@@ -118,7 +119,7 @@ fn push_refusals(page: &mut MetricsPage, numbers: &Numbers) -> Result<(), AllocE
     Ok(())
 }
 
-fn push_callbacks(page: &mut MetricsPage, numbers: &Numbers) -> Result<(), AllocError> {
+fn push_callbacks(page: &mut MetricsPage, numbers: &NodeCounts) -> Result<(), AllocError> {
     let name = "lra_callbacks_total";
     page.family(name, "counter", "Calls of participants, by their answers.")?;
     for (kind, row) in KINDS.iter().zip(&numbers.callbacks) {
@@ -142,7 +143,7 @@ fn push_pulls_from(page: &mut MetricsPage, other: u64, row: &[u64; 4]) -> Result
     Ok(())
 }
 
-fn push_pulls(page: &mut MetricsPage, node: &Node, numbers: &Numbers) -> Result<(), AllocError> {
+fn push_pulls(page: &mut MetricsPage, node: &Node, numbers: &NodeCounts) -> Result<(), AllocError> {
     page.family("lra_pulls_total", "counter", "Pulls from other nodes.")?;
     for other in 1..=node.nodes {
         if other != node.number() {
@@ -156,7 +157,7 @@ fn push_pulls(page: &mut MetricsPage, node: &Node, numbers: &Numbers) -> Result<
 fn push_ages(
     page: &mut MetricsPage,
     node: &Node,
-    numbers: &Numbers,
+    numbers: &NodeCounts,
     now: Duration,
 ) -> Result<(), AllocError> {
     let name = "lra_pulled_seconds";
@@ -223,7 +224,7 @@ fn push_build(page: &mut MetricsPage, build: Option<&Build>) -> Result<(), Alloc
 }
 
 /// Writes the families of calls and runs.
-fn push_calls(page: &mut MetricsPage, numbers: &Numbers) -> Result<(), AllocError> {
+fn push_calls(page: &mut MetricsPage, numbers: &NodeCounts) -> Result<(), AllocError> {
     page.family("lra_calls_total", "counter", "Calls at the desk, by kind.")?;
     page.named("lra_calls_total", "call", &CALL_NAMES, &numbers.calls)?;
     push_refusals(page, numbers)?;
@@ -239,7 +240,7 @@ fn push_participants<R: Wait>(
     page: &mut MetricsPage,
     rt: &R,
     node: &Node,
-    numbers: &Numbers,
+    numbers: &NodeCounts,
     now: Duration,
 ) -> Result<(), AllocError> {
     push_callbacks(page, numbers)?;
@@ -305,7 +306,7 @@ fn push_others<R: Wait>(
     page: &mut MetricsPage,
     rt: &R,
     node: &Node,
-    numbers: &Numbers,
+    numbers: &NodeCounts,
     now: Duration,
 ) -> Result<(), AllocError> {
     if node.nodes > 1 {

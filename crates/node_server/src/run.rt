@@ -2,7 +2,6 @@
 pub(crate) mod apply_loop;
 pub(crate) mod clerk;
 pub(crate) mod connections;
-pub(crate) mod counting;
 pub(crate) mod pull_holder;
 pub(crate) mod refusals;
 pub(crate) mod sweeping;

@@ -1,9 +1,9 @@
 // The thread that pulls in turn from the other nodes of its process. It outlives the runs of its
 // node.
 
-use crate::counts::PullResult;
 use crate::news::NewsCounts;
 use crate::node::Node;
+use node_core::PullResult;
 use node_inbox::{Telling, ask_for};
 use node_sockets::{BufferedSocket, Cutoff, Limit, SLICE_MS, Sockets, Times, now};
 use state_ids::{Front, NodeId};
@@ -71,16 +71,13 @@ fn pull_one<R: Wait + Clock + Sockets>(
     rt: &R,
     alloc: Global,
     node: &Node,
-    other: u8,
+    other: NodeId,
 ) -> PullResult {
-    let Ok(who) = NodeId::new(other) else {
-        return PullResult::Failed;
-    };
     let front = node.core.front(rt);
-    let Ok(stream) = node.site.reach(rt, alloc, &node.signal, other) else {
+    let Ok(stream) = node.site.reach(rt, alloc, &node.signal, other.number()) else {
         return PullResult::Failed;
     };
-    let Ok(telling) = pull_over(rt, alloc, node, who, &front, false, stream) else {
+    let Ok(telling) = pull_over(rt, alloc, node, other, &front, false, stream) else {
         return PullResult::Failed;
     };
     let told = telling.front();
@@ -147,8 +144,11 @@ pub fn pull_in_turn<R: Wait + Clock + Sockets>(rt: &R, alloc: Global, node: &Nod
             return;
         };
         other = next_teller(node, other, &told, &seen);
-        let pulled = pull_one(rt, alloc, node, other);
-        node.counts.pull(rt, other, pulled, now(rt));
+        let Ok(who) = NodeId::new(other) else {
+            continue;
+        };
+        let pulled = pull_one(rt, alloc, node, who);
+        node.counts.pull(rt, who, pulled, now(rt));
         if pulled != PullResult::Failed {
             seen.set(other, told.of(other));
         }

@@ -2,10 +2,9 @@
 // of their node.
 
 use crate::asking::pull_over;
-use crate::counts::PullResult;
 use crate::node::Node;
 use log::{Log, warn};
-use node_core::Receipt;
+use node_core::{PullResult, Receipt};
 use node_inbox::Telling;
 use node_replication::{NextPull, Outlook, Pulled};
 use node_sockets::{Sockets, now};
@@ -146,7 +145,7 @@ fn warn_of<R: Wait + Clock, L: Log>(
     outlook: &mut Outlook,
 ) {
     let now = now(rt);
-    node.counts.pull(rt, other.number(), counted(pulled), now);
+    node.counts.pull(rt, other, counted(pulled), now);
     let number = node.number();
     if let Some(what) = fault_of(pulled) {
         if outlook.note_failure(began, now) {

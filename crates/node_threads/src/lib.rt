@@ -1,7 +1,7 @@
 //! The threads of a node that know no journal, one in each file: the thread that accepts
 //! connections, those that call participants, those that pull, and the one that watches; and what
-//! they share (`Node`): the node's state under one lock (`Core`), counts, news. The lines for standard error, and the program's
-//! end, belong to all nodes.
+//! they share (`Node`): the node's state under one lock (`Core`), counts, news. The lines for standard
+//! error, and the program's end, belong to all nodes.
 #![tactic(auto)]
 
 mod accepting;
@@ -23,9 +23,7 @@ pub use accepting::{accept, accept_operators};
 pub use asking::pull_in_turn;
 pub use build::Build;
 pub use calling::call_out;
-pub use counts::{
-    CALL_NAMES, CallKind, Counts, HEARD, KINDS, Numbers, PULLS, REFUSALS, RUNS, SWEPT,
-};
+pub use counts::Counts;
 pub use following::follow;
 pub use locked::Core;
 pub use news::News;

@@ -1,8 +1,6 @@
 // What has to be known about calls, commands, facts and replies.
 
-use node_core::{AskedCall, CallResult};
-use node_effects::{body_of_all, enters, freed_by, heard_by, is_completion, noted_by, result_of};
-use node_schedule::Called;
+use node_effects::{CallNotes, body_of_all};
 use sim_env::Halt;
 use state_book::{Call, Reply};
 use state_facts::{Body, Command, CommandReply, Fact};
@@ -16,13 +14,8 @@ pub struct CallSummary {
     /// The front to which the frame leads that the call takes.
     pub taken: Option<Front>,
     pub is_sweep: bool,
-    /// Whether it asks for a frame.
-    pub pulls: bool,
-    pub enters: bool,
-    is_move: bool,
-    completes: bool,
-    freed: Option<LraId>,
-    heard: Option<Called>,
+    /// What a node's state needs to know of it.
+    pub notes: CallNotes,
 }
 
 fn command_in(call: &Call) -> Result<Option<Command>, AllocError> {
@@ -50,27 +43,8 @@ impl CallSummary {
             command: command_in(call)?,
             taken: taken_in(call),
             is_sweep: is_sweep(call),
-            pulls: matches!(call, Call::Pull(_)),
-            enters: enters(call),
-            is_move: call.is_move(),
-            completes: is_completion(call),
-            freed: freed_by(call),
-            heard: heard_by(call),
+            notes: CallNotes::of(call),
         })
-    }
-
-    /// Returns what a node's state needs to know of the call before it is made.
-    pub fn asked(&self) -> AskedCall {
-        AskedCall {
-            enters: self.enters,
-            pulls: self.pulls,
-        }
-    }
-
-    /// Returns what a node's state needs to know of its reply.
-    pub fn result(&self, reply: &Reply) -> CallResult {
-        let effects = noted_by(self.completes, &self.freed, &self.heard, reply);
-        result_of(effects, 1, self.is_move, reply)
     }
 }
 

@@ -155,7 +155,7 @@ impl<R: Runs> Life<R> {
         } else {
             Caller::Writer
         };
-        self.state.admit(whose, asked.asked(), caller, at(now))
+        self.state.admit(whose, asked.notes.asked, caller, at(now))
     }
 
     /// Records that an admitted call is over, and had this result. Returns the ticket that the

@@ -9,11 +9,10 @@ ghost use Rattle.node_server.specs.Entering.{Counts, DoesEach, DoesTask, EntersL
 
 use crate::operators::calls::{OperatorCall, OperatorCalls};
 use crate::operators::errand::Numbered;
-use crate::run::counting::refused_by;
 use crate::run::refusals::stop_reason_of;
 use crate::run::sweeping::sweep;
 use node_agenda::{OperatorWant, Task};
-use node_effects::{body_of_all, is_taken};
+use node_effects::{body_of_all, is_taken, refused_by};
 use node_inbox::{Letter, Telling};
 use node_sockets::{Sockets, now, unix_millis};
 use node_threads::Node;

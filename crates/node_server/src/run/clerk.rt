@@ -1,31 +1,18 @@
 // The clerk of a thread in a run of a node.
-ghost use Rattle.std.specs.Prelude.{◌≡◌, ◌⊎◌, ◌≤◌, Err};
+ghost use Rattle.std.specs.Prelude.{◌≡◌, ◌⊎◌, Err};
 ghost use Rattle.state_facts.specs.declared.refusal.Refusal.TheVariants.{Stopped};
 
-use crate::run::counting::{asked_by, number_of, refused_by};
 use crate::run::pull_holder::front_in;
-use node_core::{CallResult, Caller};
-use node_effects::{asked_call, freed_by, heard_by, is_completion, noted_by, result_of};
-use node_schedule::Called;
+use node_core::Caller;
+use node_effects::{CallNotes, number_of, refused_by};
 use node_sockets::Promise;
 use node_threads::Node;
 use state_book::{Call, Clerk, Reply};
 use state_facts::Refusal;
-use state_ids::{Front, LraId};
+use state_ids::Front;
 use std::alloc::Global;
 use std::sync::Wait;
 use std::time::Clock;
-use wire_frames::Delta;
-
-/// How many facts of a frame, or duties of a list, count as one more call. The trail keeps each
-/// frame and list, so a run with long ones ends early.
-const SHARE: u64 = 64;
-
-/// How many members of a record count as one more call.
-const MEMBERS: u64 = 8;
-
-/// The most calls that a frame adds: many of the facts that it could have may be purged.
-const MAX_SHARES: u64 = 320;
 
 /// A clerk that counts its calls, and records their effects for the other threads. The thread that
 /// makes the calls wakes those, once the answer is written, and ends the run then if it is nearly full
@@ -104,71 +91,12 @@ impl<'n, R, C: Clerk> CountingClerk<'n, R, C> {
     }
 }
 
-/// Returns how many more calls a frame counts as, by the facts between its base and its front.
-fn shares_of(delta: &Delta) -> u64
-    ensures { result ≤ 320 }
-{
-    let (base, front) = (delta.base(), delta.front());
-    let mut facts = 0u64;
-    for (since, now) in base.as_slice().iter().zip(front.as_slice()) {
-        facts = facts.saturating_add(now.saturating_sub(*since));
-    }
-    (facts / SHARE).min(MAX_SHARES)
-}
-
-/// Returns how many calls a call counts as, by what it hands over.
-fn weight_of_call(call: &Call) -> u64 {
-    match call {
-        Call::Take(delta) => shares_of(delta).saturating_add(1),
-        _ => 1,
-    }
-}
-
-/// Returns how many more calls it counts as, by its reply.
-fn weight_of_reply(reply: &Reply) -> u64 {
-    match reply {
-        Reply::Due(duties) => duties.as_slice().len() as u64 / SHARE,
-        Reply::Gave(delta) => shares_of(delta),
-        Reply::Held(holding) => holding.record.members.len() as u64 / MEMBERS,
-        _ => 0,
-    }
-}
-
 /// Returns the front of the node that pulls, if that matters.
 fn front_of(node: &Node, call: &Call) -> Option<Front> {
     match call {
         Call::Pull(body) => front_in(node, body.as_slice()),
         _ => None,
     }
-}
-
-/// What a call says of participants.
-#[derive(Clone, Copy)]
-struct Said {
-    /// Whether it reports a completion.
-    completes: bool,
-    /// The LRA of which it says that a participant was notified as it was to be.
-    freed: Option<LraId>,
-    /// The participant whose outcome it reports.
-    heard: Option<Called>,
-}
-
-impl Said {
-    fn by(call: &Call) -> Said {
-        Said {
-            completes: is_completion(call),
-            freed: freed_by(call),
-            heard: heard_by(call),
-        }
-    }
-}
-
-/// Returns what a call resulted in that said this, counted as `weight` calls before it was made, and
-/// had this reply.
-fn result_by(said: &Said, weight: u64, is_move: bool, reply: &Reply) -> CallResult {
-    let effects = noted_by(said.completes, &said.freed, &said.heard, reply);
-    let weight = weight.saturating_add(weight_of_reply(reply));
-    result_of(effects, weight, is_move, reply)
 }
 
 impl<'n, R: Wait + Clock, C: Clerk + Drop> Clerk for CountingClerk<'n, R, C> {
@@ -179,28 +107,29 @@ impl<'n, R: Wait + Clock, C: Clerk + Drop> Clerk for CountingClerk<'n, R, C> {
         ⊎ ((new.clerk ≡ old.clerk) × (outcome ≡ Err Stopped)) };
 
     fn call(&mut self, alloc: Global, call: Call, now: u64) -> Result<(), Refusal> {
-        let (is_move, said, asked) = (call.is_move(), Said::by(&call), asked_by(&call));
-        let weight = weight_of_call(&call);
+        let notes = CallNotes::of(&call);
         let front = front_of(self.node, &call);
         let admission = self
             .node
             .core
-            .admit(self.rt, self.caller, asked_call(&call), self.place);
+            .admit(self.rt, self.caller, notes.asked, self.place);
         let Some(admission) = admission else {
             self.held = true;
             let number = number_of(&Refusal::Stopped);
-            self.node.counts.call(self.rt, asked, Some(number));
+            self.node.counts.call(self.rt, notes.kind, Some(number));
             return Err(Refusal::Stopped);
         };
         match self.clerk.call(alloc, call, now) {
             Ok(()) => {
                 let reply = self.clerk.reply();
-                let came = result_by(&said, weight, is_move, reply);
+                let came = notes.result(reply);
                 let ticket = self.node.core.settle(self.rt, admission, &came);
                 if let (Some(promise), Some(ticket)) = (self.promise, ticket) {
                     promise.make(ticket);
                 }
-                self.node.counts.call(self.rt, asked, refused_by(reply));
+                self.node
+                    .counts
+                    .call(self.rt, notes.kind, refused_by(reply));
                 if let Some(front) = front {
                     self.node.hear_front(self.rt, &front);
                 }
@@ -210,7 +139,7 @@ impl<'n, R: Wait + Clock, C: Clerk + Drop> Clerk for CountingClerk<'n, R, C> {
                 let has_failed = matches!(refusal, Refusal::JournalFailed);
                 self.node.core.give_up(self.rt, admission, has_failed);
                 let number = number_of(&refusal);
-                self.node.counts.call(self.rt, asked, Some(number));
+                self.node.counts.call(self.rt, notes.kind, Some(number));
                 Err(refusal)
             }
         }

@@ -1,12 +1,16 @@
-// How the calls of a node's desk are counted.
+// As what a call of the desk is counted, and by which number its refusal.
+ghost use Rattle.std.specs.Prelude.{◌≡◌};
+ghost use Rattle.node_effects.specs.Kinds.{call_kind, command_kind, number_of, refused_by, refused_in};
 
-use node_threads::CallKind;
+use node_core::CallKind;
 use state_book::{Call, Reply};
 use state_facts::{Command, CommandReply, Refusal};
 use state_ids::Verdict;
 
-/// Returns what a command asks for.
-fn asked_in(command: &Command) -> CallKind {
+/// Returns as what a command is counted.
+fn command_kind(command: &Command) -> CallKind
+    ensures { result ≡ command_kind command.now }
+{
     match command {
         Command::Begin { .. } => CallKind::Begin,
         Command::Join { .. } => CallKind::Join,
@@ -23,10 +27,12 @@ fn asked_in(command: &Command) -> CallKind {
     }
 }
 
-/// Returns what a call asks for.
-pub(crate) fn asked_by(call: &Call) -> CallKind {
+/// Returns as what a call of the desk is counted.
+pub fn call_kind(call: &Call) -> CallKind
+    ensures { result ≡ call_kind call.now }
+{
     match call {
-        Call::Command(command) => asked_in(command),
+        Call::Command(command) => command_kind(command),
         Call::Take(_) => CallKind::Take,
         Call::Pull(_) => CallKind::Pull,
         Call::Status(_) => CallKind::Status,
@@ -40,24 +46,10 @@ pub(crate) fn asked_by(call: &Call) -> CallKind {
     }
 }
 
-/// Returns the number of the refusal in a reply, if there is one.
-pub(crate) fn refused_by(reply: &Reply) -> Option<u8> {
-    match reply {
-        Reply::Command(reply) => refused_in(reply),
-        Reply::Refused(refusal) => Some(number_of(refusal)),
-        _ => None,
-    }
-}
-
-fn refused_in(reply: &CommandReply) -> Option<u8> {
-    match reply {
-        CommandReply::Refused(refusal) => Some(number_of(refusal)),
-        _ => None,
-    }
-}
-
-/// Returns the number of a refusal, 1 to 24.
-pub(crate) fn number_of(refusal: &Refusal) -> u8 {
+/// Returns the number of a refusal, 1 to 24: the one in its text, E1 to E24.
+pub fn number_of(refusal: &Refusal) -> u8
+    ensures { result ≡ number_of refusal.now }
+{
     match refusal {
         Refusal::BadText => 1,
         Refusal::UnknownLra => 2,
@@ -83,5 +75,25 @@ pub(crate) fn number_of(refusal: &Refusal) -> u8 {
         Refusal::Strange(_) => 22,
         Refusal::NeedsVersion2 => 23,
         Refusal::StillToTell(_, _) => 24,
+    }
+}
+
+fn refused_in(reply: &CommandReply) -> Option<u8>
+    ensures { result ≡ refused_in reply.now }
+{
+    match reply {
+        CommandReply::Refused(refusal) => Some(number_of(refusal)),
+        _ => None,
+    }
+}
+
+/// Returns the number of the refusal in a reply, if there is one.
+pub fn refused_by(reply: &Reply) -> Option<u8>
+    ensures { result ≡ refused_by reply.now }
+{
+    match reply {
+        Reply::Command(reply) => refused_in(reply),
+        Reply::Refused(refusal) => Some(number_of(refusal)),
+        _ => None,
     }
 }
