@@ -141,12 +141,12 @@ fn send<W: Sink>(alloc: Global, writer: &mut W, request: &CallRequest) -> bool {
 }
 
 /// Reads a node's answer.
-fn hear<S: Source>(alloc: Global, reader: &mut S) -> Option<Response> {
+fn read_node<S: Source>(alloc: Global, reader: &mut S) -> Option<Response> {
     read_response(alloc, reader, MAX_BODY_BYTES).ok()
 }
 
 /// Reads a participant's answer, of any framing.
-fn hear_any<S: Source>(
+fn read_participant<S: Source>(
     alloc: Global,
     reader: &mut S,
 ) -> Result<wire_narayana::ParticipantResponse, Broken> {
@@ -166,7 +166,7 @@ pub fn call<R: Platform>(
     if !send(agent.alloc, &mut writer, request) {
         return Err(Fail::Unheard);
     }
-    match hear(agent.alloc, &mut reader) {
+    match read_node(agent.alloc, &mut reader) {
         Some(response) => Ok(response),
         None => Err(Fail::Unheard),
     }
@@ -185,5 +185,5 @@ pub fn call_participant<R: Platform>(
     if !send(agent.alloc, &mut writer, request) {
         return Err(Broken::Bad);
     }
-    hear_any(agent.alloc, &mut reader)
+    read_participant(agent.alloc, &mut reader)
 }

@@ -115,7 +115,7 @@ fn call_once<R: Platform>(
 }
 
 /// Logs an answer that the node receives in another form, or not at all.
-fn tell<R: Platform>(
+fn log_change<R: Platform>(
     agent: &Agent<R>,
     calling: &Calling,
     answer: ParticipantAnswer,
@@ -209,6 +209,6 @@ pub fn serve_node<R: Platform>(
     };
     let answer = call_once(agent, &calling)?;
     let told = told_of(calling.kind, answer);
-    tell(agent, &calling, answer, told);
+    log_change(agent, &calling, answer, told);
     Ok(told)
 }

@@ -9,7 +9,7 @@ ghost use Rattle.lra_node.specs.Arguments.{AskMember, AskServer, IsOldName, IsPo
 ghost use Rattle.std.specs.Prelude.{◌≤◌, ℕ, IfOk, List, MatchBool, MatchOption, map, string_bytes};
 
 use log::{Level, Log, Logged};
-use node_server::{Folder, LocalMembers, Stores, UnknownFiles, hold, serve, serve_members};
+use node_server::{Folder, LocalMembers, Stores, UnknownFiles, open_null, serve, serve_members};
 use node_threads::{ToLines, lines_of};
 use script_lines::{Ended, arguments, code_of, node_of, play};
 use state_ids::MAX_NODES;
@@ -152,7 +152,7 @@ fn main(rt: HostRuntime) -> ExitCode {
         Ok(made) => made,
         Err(status) => return ExitCode::from(status),
     };
-    let _held = (hold(&rt), hold(&rt), hold(&rt));
+    let _held = (open_null(&rt), open_null(&rt), open_null(&rt));
     let (alloc, input) = (rt.alloc(), rt.reader());
     let Some(lines) = lines_of(&rt, rt, alloc) else {
         let _ = eprintln!(rt; "run {}", job.first());

@@ -203,7 +203,7 @@ impl<R: Runs> Play<R> {
         let (me, said) = (self.me(place)?, texts::of_command(self.alloc, &command)?);
         let caller = self.luck.place(3).saturating_add(1);
         let reply = self.call(place, caller, Call::Command(command))?;
-        self.tell(texts::of_asked(self.alloc, me, &said, &reply)?)
+        self.note_event(texts::of_asked(self.alloc, me, &said, &reply)?)
     }
 
     /// Lets a client send a node a command in the middle of another call.
@@ -212,6 +212,6 @@ impl<R: Runs> Play<R> {
         let (me, said) = (self.me(place)?, texts::of_command(self.alloc, &command)?);
         let caller = self.luck.place(3).saturating_add(1);
         let reply = self.call_between(place, caller, Call::Command(command))?;
-        self.tell(texts::of_asked(self.alloc, me, &said, &reply)?)
+        self.note_event(texts::of_asked(self.alloc, me, &said, &reply)?)
     }
 }

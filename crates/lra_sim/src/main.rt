@@ -55,7 +55,7 @@ fn print_halt<P: Print, R: Runs>(rt: &P, play: &Play<R>, seed: u64, halt: &Halt)
 }
 
 fn print_told<P: Print, R: Runs>(rt: &P, play: &Play<R>) -> io::Result<()> {
-    for line in play.told() {
+    for line in play.events() {
         println!(rt; "  {line}")?;
     }
     Ok(())

@@ -55,7 +55,7 @@ impl<R: Runs> Play<R> {
         if let Some(node) = self.nodes.get_mut(place) {
             node.leave(copy, files, loses_power)?;
         }
-        self.tell(texts::of_text(self.alloc, "its disk fails before it is open")?)
+        self.note_event(texts::of_text(self.alloc, "its disk fails before it is open")?)
     }
 
     /// Returns the place of the newest copy of a node's disk.
@@ -69,7 +69,7 @@ impl<R: Runs> Play<R> {
     /// Starts a node over a copy of its disk.
     pub fn start(&mut self, place: usize, copy: usize) -> Result<(), Halt> {
         let (is_older, me) = (copy < self.newest(place), self.me(place)?);
-        self.tell(texts::of_start(self.alloc, me, is_older)?)?;
+        self.note_event(texts::of_start(self.alloc, me, is_older)?)?;
         let Some(run) = self.open(place, copy)? else {
             return Ok(());
         };
@@ -151,7 +151,7 @@ impl<R: Runs> Play<R> {
     /// Opens the closed journal of a node again. Nothing is stored for a while.
     pub fn reopen(&mut self, place: usize) -> Result<(), Halt> {
         let me = self.me(place)?;
-        self.tell(texts::of_reopening(self.alloc, me)?)?;
+        self.note_event(texts::of_reopening(self.alloc, me)?)?;
         let Some(run) = self.open(place, self.newest(place))? else {
             return Ok(());
         };
@@ -174,7 +174,7 @@ impl<R: Runs> Play<R> {
     /// Stops a node, in the middle of a call or between two.
     pub fn stop(&mut self, place: usize, doubt: Doubt) -> Result<(), Halt> {
         let (me, loses_power) = (self.me(place)?, self.luck.is_one_in(2));
-        self.tell(texts::of_stop(self.alloc, me, loses_power)?)?;
+        self.note_event(texts::of_stop(self.alloc, me, loses_power)?)?;
         self.shut(place, loses_power, doubt)?;
         self.end_life(place);
         Ok(())
@@ -196,7 +196,7 @@ impl<R: Runs> Play<R> {
             return self.stop(place, doubt);
         }
         let me = self.me(place)?;
-        self.tell(texts::of_failure(self.alloc, me)?)?;
+        self.note_event(texts::of_failure(self.alloc, me)?)?;
         let loses_written = self.luck.is_one_in(2);
         self.shut(place, loses_written, doubt)
     }
@@ -238,6 +238,6 @@ impl<R: Runs> Play<R> {
         if self.luck.is_one_in(2) {
             self.end_life(place);
         }
-        self.tell(texts::of_text(self.alloc, "its disk fails between two runs")?)
+        self.note_event(texts::of_text(self.alloc, "its disk fails between two runs")?)
     }
 }

@@ -32,7 +32,7 @@ pub struct Play<R: Runs> {
     pub copies: Copies,
     /// The state to which a call is handed back whose node stopped in the middle of it.
     pub gone: NodeState,
-    told: VecDeque<String>,
+    events: VecDeque<String>,
     most: usize,
 }
 
@@ -133,7 +133,7 @@ impl<R: Runs> Play<R> {
             steps: 0,
             copies,
             gone: new_gone(alloc)?,
-            told: VecDeque::new(alloc),
+            events: VecDeque::new(alloc),
             most,
         })
     }
@@ -173,18 +173,18 @@ impl<R: Runs> Play<R> {
     }
 
     /// Notes an event in words.
-    pub fn tell(&mut self, words: String) -> Result<(), Halt> {
-        if self.told.len() >= self.most {
-            let _oldest = self.told.pop_front();
+    pub fn note_event(&mut self, words: String) -> Result<(), Halt> {
+        if self.events.len() >= self.most {
+            let _oldest = self.events.pop_front();
         }
         let (steps, now) = (self.steps, self.now);
         let line = format!(in self.alloc; "{steps}, at {now} ms: {words}")?;
-        self.told.push_back(line)?;
+        self.events.push_back(line)?;
         Ok(())
     }
 
-    pub fn told(&self) -> &VecDeque<String> {
-        &self.told
+    pub fn events(&self) -> &VecDeque<String> {
+        &self.events
     }
 
     pub fn is_cut(&self, one: usize, other: usize) -> bool {

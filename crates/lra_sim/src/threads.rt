@@ -159,7 +159,7 @@ impl<R: Runs> Play<R> {
             return Ok(());
         };
         let reply = self.call(place, ENTERS, call)?;
-        self.tell(texts::of_errand(self.alloc, &reply)?)
+        self.note_event(texts::of_errand(self.alloc, &reply)?)
     }
 
     fn enter_letter(&mut self, place: usize, letter: Letter) -> Result<(), Halt> {
@@ -168,7 +168,7 @@ impl<R: Runs> Play<R> {
         };
         let (who, heard) = (due_call(letter.duty()), letter.heard().name());
         let reply = self.call(place, ENTERS, Call::Command(command))?;
-        self.tell(texts::of_entered(self.alloc, &who, heard, &reply)?)?;
+        self.note_event(texts::of_entered(self.alloc, &who, heard, &reply)?)?;
         let (is_entered, now) = (reply.is_some(), self.now);
         if let Some(life) = self.life(place) {
             life.end_letter(letter, &who, is_entered, now);
@@ -178,7 +178,7 @@ impl<R: Runs> Play<R> {
 
     fn take(&mut self, place: usize, telling: Telling) -> Result<(), Halt> {
         let (me, front, from) = (self.me(place)?, telling.front(), telling.from());
-        self.tell(texts::of_taking(self.alloc, me, from, &front)?)?;
+        self.note_event(texts::of_taking(self.alloc, me, from, &front)?)?;
         let (known, spare) = (self.known(place)?, telling.copy()?);
         let reply = self.call(place, ENTERS, Call::Take(telling.into_delta()))?;
         if reply.is_some() && !is_took(&reply) {
@@ -262,7 +262,7 @@ impl<R: Runs> Play<R> {
         if let Some(life) = self.life(place) {
             life.tick();
         }
-        self.tell(texts::of_expiry(self.alloc, id)?)
+        self.note_event(texts::of_expiry(self.alloc, id)?)
     }
 
     /// Checks that no LRA of a node is overdue.
@@ -292,7 +292,7 @@ impl<R: Runs> Play<R> {
     fn purge(&mut self, place: usize, ripe: Ripe) -> Result<(), Halt> {
         let (root, seen) = (ripe.root(), ripe.seen());
         let reply = self.call(place, ENTERS, Call::Sweep { root, seen })?;
-        self.tell(texts::of_sweep(self.alloc, root, seen, &reply)?)?;
+        self.note_event(texts::of_sweep(self.alloc, root, seen, &reply)?)?;
         let now = self.now;
         if let (Some(reply), Some(life)) = (&reply, self.life(place)) {
             life.end_sweep(root, reply, now);
@@ -318,7 +318,7 @@ impl<R: Runs> Play<R> {
 
     /// Checks that a call that begins is on the newest list, and that its host has room for it.
     fn see_call(&mut self, who: &DueCall, is_listed: bool, is_full: bool) -> Result<(), Halt> {
-        self.tell(texts::of_call(self.alloc, who)?)?;
+        self.note_event(texts::of_call(self.alloc, who)?)?;
         if is_full {
             return Err(too_many(self.alloc)?);
         }
@@ -385,6 +385,6 @@ impl<R: Runs> Play<R> {
         if let Some(life) = self.life(place) {
             life.hear(time, came, now);
         }
-        self.tell(texts::of_answer(self.alloc, &who, manner)?)
+        self.note_event(texts::of_answer(self.alloc, &who, manner)?)
     }
 }

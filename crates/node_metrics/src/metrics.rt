@@ -270,7 +270,7 @@ fn push_told<R: Wait>(page: &mut MetricsPage, rt: &R, node: &Node) -> Result<(),
         if other != node.me {
             page.open(name)?;
             page.label_number("by", u64::from(number))?;
-            page.close(node.core.told(rt, other))?;
+            page.close(node.core.acknowledged(rt, other))?;
         }
     }
     Ok(())

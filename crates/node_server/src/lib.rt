@@ -10,5 +10,5 @@ mod run;
 mod shared;
 
 pub use node::opening::{Folder, Stores, Unopened};
-pub use program::files::{UnknownFiles, hold};
+pub use program::files::{UnknownFiles, open_null};
 pub use program::{LocalMembers, serve, serve_members};

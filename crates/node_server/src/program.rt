@@ -54,7 +54,7 @@ fn cause_of(kind: ErrorKind) -> &'static str {
 }
 
 /// Prints what is not to be had, and why, a line each.
-fn tell<R: Eprint>(rt: &R, trouble: Trouble) {
+fn print_trouble<R: Eprint>(rt: &R, trouble: Trouble) {
     let _ = match trouble {
         Trouble::Journal(number, why) => eprintln!(rt;
             "node {number}: can't open its journal: {why}\njournal {number}"
@@ -76,7 +76,7 @@ fn is_in_reach(node: &Node) -> bool {
 }
 
 /// Logs where each node listens, and warns if nodes of another group may be taken for its own.
-fn tell_of_all<L: Log>(log: &L, nodes: &[Node], group: Option<&GroupName>) {
+fn log_addresses<L: Log>(log: &L, nodes: &[Node], group: Option<&GroupName>) {
     for node in nodes {
         info!(log; "node {}: listens on {}", node.number(), node.site.listen);
         if let Some(address) = node.site.operate {
@@ -366,7 +366,7 @@ fn nodes_of_members(
 }
 
 /// Runs a node, and reports a failure.
-fn run_and_tell<R, L, S: Stores + Sync>(
+fn run_and_report<R, L, S: Stores + Sync>(
     rt: &R,
     log: &L,
     alloc: Global,
@@ -381,10 +381,10 @@ where
 {
     if let Err(failure) = run_node(rt, log, alloc, node, stores, runtime) {
         match failure {
-            Failure::Journal(why) => tell(rt, Trouble::Journal(node.number(), why)),
-            Failure::Run => tell(rt, Trouble::Run(node.number())),
+            Failure::Journal(why) => print_trouble(rt, Trouble::Journal(node.number(), why)),
+            Failure::Run => print_trouble(rt, Trouble::Run(node.number())),
         }
-        shutdown.tell(rt, End::Failed);
+        shutdown.announce(rt, End::Failed);
     }
 }
 
@@ -404,11 +404,11 @@ where
     L: Log + Sync,
 {
     if scope
-        .spawn(move || run_and_tell(rt, log, alloc, node, stores, runtime, shutdown))
+        .spawn(move || run_and_report(rt, log, alloc, node, stores, runtime, shutdown))
         .is_err()
     {
-        tell(rt, Trouble::Run(node.number()));
-        shutdown.tell(rt, End::Failed);
+        print_trouble(rt, Trouble::Run(node.number()));
+        shutdown.announce(rt, End::Failed);
     }
 }
 
@@ -510,7 +510,7 @@ where
 {
     let runtimes = begin(rt, alloc, nodes, stores, group)?;
     let shutdown = watch(rt, alloc, host, first, input)?;
-    tell_of_all(log, nodes, group);
+    log_addresses(log, nodes, group);
     run_all(rt, log, alloc, nodes, stores, runtimes, &shutdown);
     Ok(shutdown.end(rt))
 }
@@ -530,7 +530,7 @@ fn close<R: Eprint>(rt: &R, ended: Result<End, Trouble>) -> u8
     ensures { result ≡ status_of ended }
 {
     if let Err(trouble) = ended {
-        tell(rt, trouble);
+        print_trouble(rt, trouble);
     }
     status_of(ended)
 }

@@ -129,7 +129,7 @@ pub fn call_out<R: Wait + Clock + Sockets, L: Log>(rt: &R, log: &L, alloc: Globa
         let kind = due.duty().kind;
         let came = call_one(rt, alloc, node, due);
         node.counts.callback(rt, kind, heard_of(&came));
-        if let Some(plight) = node.core.tell(rt, began, came) {
+        if let Some(plight) = node.core.end_call(rt, began, came) {
             warn_of(log, node, &plight);
         }
     }

@@ -68,7 +68,7 @@ impl News {
     }
 
     /// Announces that a node has something new.
-    pub(crate) fn tell<R: Wait>(&self, rt: &R, number: u8) {
+    pub(crate) fn announce<R: Wait>(&self, rt: &R, number: u8) {
         let mut told = self.told.lock(rt);
         let count = told.counts.of(number).saturating_add(1);
         told.counts.set(number, count);

@@ -245,7 +245,7 @@ impl Node {
             return;
         }
         for news in self.told.iter() {
-            news.tell(rt, self.number());
+            news.announce(rt, self.number());
         }
         if self.site.is_apart() {
             self.queue.free(rt);
@@ -258,7 +258,7 @@ impl Node {
     pub fn hear_pull<R: Wait + Clock>(&self, rt: &R, pull: &AskedPull) -> PullDecision {
         let heard = self.core.hear_pull(rt, pull);
         if heard.was_silent {
-            self.news.tell(rt, pull.from.number());
+            self.news.announce(rt, pull.from.number());
         }
         if pull.since.is_some() {
             return heard.decision;
@@ -278,7 +278,7 @@ impl Node {
         let are_ahead = self.core.are_ahead(rt, front);
         for (is_ahead, number) in are_ahead.iter().zip(1..=MAX_NODES) {
             if *is_ahead {
-                self.news.tell(rt, number);
+                self.news.announce(rt, number);
             }
         }
     }

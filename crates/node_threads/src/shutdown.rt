@@ -30,7 +30,7 @@ impl Shutdown {
 
     /// Announces an end. The first one stands, but a failure takes precedence over the end of the
     /// input.
-    pub fn tell<R: Wait>(&self, rt: &R, end: End) {
+    pub fn announce<R: Wait>(&self, rt: &R, end: End) {
         let mut told = self.end.lock(rt);
         if told.is_none() || end == End::Failed {
             *told = Some(end);
@@ -62,5 +62,5 @@ pub fn drain<R: Wait, I: Read + Drop>(rt: &R, mut input: I, shutdown: &Shutdown)
             Err(_) => break,
         }
     }
-    shutdown.tell(rt, End::Input);
+    shutdown.announce(rt, End::Input);
 }

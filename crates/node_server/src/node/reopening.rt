@@ -150,7 +150,7 @@ where
             Ok(book) => {
                 node.core.note_shut(rt, false);
                 backoff.end_rest();
-                node.core.hold(rt, backoff.next_pause());
+                node.core.spare_journal(rt, backoff.next_pause());
                 return Ok(Some(book));
             }
             Err(why) => why,

@@ -120,7 +120,7 @@ impl OperatorCalls {
     }
 
     /// Reports the result of a call. Returns whether somebody still waits for it.
-    pub(crate) fn tell<R: Wait>(&self, rt: &R, number: u64, outcome: Outcome) -> bool {
+    pub(crate) fn hand_back<R: Wait>(&self, rt: &R, number: u64, outcome: Outcome) -> bool {
         let is_awaited = self.errand.lock(rt).hand_back(number, outcome);
         if is_awaited {
             self.made.notify_all();

@@ -202,7 +202,7 @@ impl<'n, R: Wait + Clock, L: Log> OperatorClerk<'n, R, L> {
     }
 
     // Logs what was said on behalf of a participant, if it was recorded.
-    fn tell(&self, call: &Call, reply: &Reply) {
+    fn log_recorded(&self, call: &Call, reply: &Reply) {
         if let Call::Command(command) = call {
             if is_entered(reply) {
                 warn_by(self.log, self.node.number(), command);
@@ -221,7 +221,7 @@ impl<'n, R: Wait + Clock, L: Log> Clerk for OperatorClerk<'n, R, L> {
         let copy = call.clone()?;
         match self.make(copy, now) {
             Ok(reply) => {
-                self.tell(&call, &reply);
+                self.log_recorded(&call, &reply);
                 if !self.wait_for_copies() {
                     return Err(unacknowledged(&call));
                 }

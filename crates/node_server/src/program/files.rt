@@ -25,6 +25,6 @@ impl Start for UnknownFiles {
 
 /// Opens `/dev/null`, so that no connection gets the number of a standard stream that was closed
 /// before the start: otherwise what is written to standard error would go to a client.
-pub fn hold(rt: &HostRuntime) -> Option<File> {
+pub fn open_null(rt: &HostRuntime) -> Option<File> {
     File::open(rt, "/dev/null").ok()
 }

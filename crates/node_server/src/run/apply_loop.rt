@@ -63,7 +63,7 @@ fn is_expired(reply: &Reply) -> bool {
 }
 
 /// Whether what another node sent was taken. The reason for a refusal is recorded.
-fn note_told<R: Wait>(rt: &R, node: &Node, from: NodeId, reply: &Reply) -> bool {
+fn note_result<R: Wait>(rt: &R, node: &Node, from: NodeId, reply: &Reply) -> bool {
     if let Some(number) = refused_by(reply) {
         node.core.note_refused(rt, from, number);
     }
@@ -109,7 +109,7 @@ fn take<R: Wait + Clock, C: Clerk>(
     let taken = clerk.call(alloc, Call::Take(telling.into_delta()), unix_millis(rt));
     match &taken {
         Ok(()) => {
-            let is_taken = note_told(rt, node, from, clerk.reply());
+            let is_taken = note_result(rt, node, from, clerk.reply());
             node.core.end_telling(rt, &front, known, is_taken);
         }
         Err(refusal) => keep(rt, node, &front, spare, *refusal),
@@ -205,7 +205,7 @@ fn hand_back<R: Wait>(
     number: u64,
     outcome: Result<Reply, Refusal>,
 ) {
-    if !errands.tell(rt, number, outcome) {
+    if !errands.hand_back(rt, number, outcome) {
         node.note_late();
     }
 }

@@ -47,7 +47,7 @@ impl Core {
 
     /// Makes nothing be stored for this long: the journal failed, and questions are to be answered
     /// meanwhile.
-    pub fn hold<R: Wait + Clock>(&self, rt: &R, time: Duration) {
+    pub fn spare_journal<R: Wait + Clock>(&self, rt: &R, time: Duration) {
         let until = now(rt).saturating_add(time);
         self.held.lock(rt).state.mail.hold_until(until);
     }
@@ -147,7 +147,7 @@ impl Core {
     /// Records the result of a call that began at this moment: what was learned, or why the
     /// participant is called again. From then on its host may be called once more, by another
     /// thread too. Returns what is to be logged of failing calls.
-    pub(crate) fn tell<R: Wait + Clock>(
+    pub(crate) fn end_call<R: Wait + Clock>(
         &self,
         rt: &R,
         began: Duration,
@@ -246,7 +246,7 @@ impl Core {
     }
 
     /// Returns how many facts of this node another reported to have stored.
-    pub fn told<R: Wait>(&self, rt: &R, other: NodeId) -> u64 {
+    pub fn acknowledged<R: Wait>(&self, rt: &R, other: NodeId) -> u64 {
         self.held.lock(rt).state.followers.told(other)
     }
 
