@@ -76,8 +76,8 @@ pub record IsNext (now : Duration) (old new : NodeState) (task : Task) : Type 0 
   pub is : IsNextTask now old.mail new.mail next
   pub does : IsNextOf next old new task
 
--- Who is to be woken, and whether the run is to end. The others are asked if there is something new, they are in processes of their
--- own, and one of them doesn't wait for news.
+-- Who is to be woken, and whether the run is to end. The others are asked if there is something new,
+-- they are in processes of their own, and one of them doesn't wait for news.
 abbrev pub asks_others : (do_all_listen : Bool) → NodeState → Bool
 asks_others do_all_listen n = n.has_news && (n.is_apart && ((n.nodes == 1) || not do_all_listen))
 

@@ -17,8 +17,8 @@ const CROWD: u64 = 512;
 /// Holds requests of other nodes and clients. A pull that waits is held until this node has
 /// something new for it. A pull of a node that sent more of its own facts than it counts now is
 /// held until these are stored or are given up, because a node that starts over an older journal is
-/// to learn of each number that it gave. Commands are held while a start waits for other nodes, for at most a
-/// second. Answers wait until other nodes have what they show.
+/// to learn of each number that it gave. Commands are held while a start waits for other nodes, for
+/// at most a second. Answers wait until other nodes have what they show.
 #[derive(Drop)]
 pub struct PullHolder<'n, R> {
     pub rt: &'n R,
