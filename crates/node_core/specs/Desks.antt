@@ -1,6 +1,7 @@
 -- Since when each thread with a pass has waited for a call at the desk.
-use Rattle.std.specs.Prelude.{◌-◌, ◌*◌, ℕ, Bool, List, Option, None, Some, nat_le, nat_lt, if◌then◌else◌, replicate, slice_set}
+use Rattle.std.specs.Prelude.{◌-◌, ◌*◌, ℕ, Bool, List, Option, None, Some, max, nat_le, nat_lt, if◌then◌else◌, replicate, slice_set}
 use Rattle.std.specs.Duration.{as_nanos}
+use Rattle.std.specs.List.{fold}
 use Rattle.std.specs.declared.time.Duration.{Duration}
 
 -- since when the thread at each of eight places has waited
@@ -27,3 +28,7 @@ waited now (Some since) = as_nanos now - as_nanos since
 
 abbrev pub has_waited : Duration → (millis : ℕ) → Option Duration → Bool
 has_waited now millis since = nat_le (millis * 1_000_000) (waited now since)
+
+-- the longest that any thread has waited by now, in nanoseconds
+abbrev pub longest_wait : Duration → List (Option Duration) → ℕ
+longest_wait now all = fold (λ time since. max time (waited now since)) 0 all

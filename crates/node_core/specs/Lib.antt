@@ -7,3 +7,4 @@ pub mod Peers
 pub mod Pulls
 pub mod Tallies
 pub mod Turns
+pub mod Watches

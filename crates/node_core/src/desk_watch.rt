@@ -3,7 +3,7 @@
 ghost use Rattle.std.specs.Prelude.{◌≡◌};
 ghost use Rattle.std.specs.Duration.{as_nanos};
 ghost use Rattle.std.specs.List.{list_any};
-ghost use Rattle.node_core.specs.Desks.{begun, ended, has_waited, nobody, waited};
+ghost use Rattle.node_core.specs.Desks.{begun, ended, has_waited, longest_wait, nobody, waited};
 ghost use Rattle.node_core.specs.declared.desk_watch.TheConstants.{HANGS_MS, STALLS_MS};
 
 use std::marker::Model;
@@ -33,6 +33,20 @@ fn has_waited(since: Option<Duration>, now: Duration, millis: u64) -> bool
     ensures { result ≡ has_waited now millis since }
 {
     waited(since, now).as_nanos() >= Duration::from_millis(millis).as_nanos()
+}
+
+/// Returns the longest wait of the calls that began at these moments, or zero if there is none.
+fn longest_wait(all: &[Option<Duration>], now: Duration) -> Duration
+    ensures { as_nanos result ≡ longest_wait now all.now }
+{
+    let mut longest = Duration::ZERO;
+    for since in all.iter() {
+        let time = waited(*since, now);
+        if longest.as_nanos() < time.as_nanos() {
+            longest = time;
+        }
+    }
+    longest
 }
 
 /// Since when each thread with a pass has waited for its call.
@@ -97,14 +111,9 @@ impl DeskWatch {
     }
 
     /// Returns how long the call has waited that has waited longest, or zero if none waits.
-    pub fn longest(&self, now: Duration) -> Duration {
-        let mut longest = Duration::ZERO;
-        for since in self.since.iter() {
-            let time = waited(*since, now);
-            if longest.as_nanos() < time.as_nanos() {
-                longest = time;
-            }
-        }
-        longest
+    pub fn longest(&self, now: Duration) -> Duration
+        ensures { as_nanos result ≡ longest_wait now self.now.since }
+    {
+        longest_wait(&self.since, now)
     }
 }

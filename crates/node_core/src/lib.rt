@@ -1,6 +1,7 @@
 //! A node's state besides its journal, as one value: what its threads hand to one another, what other
 //! nodes have of its facts, which calls are accepted, and how far its run is. It knows no thread, no
-//! lock, no socket and no clock: each moment is passed in.
+//! lock, no socket and no clock: each moment is passed in. Beside it stands when a node warns its
+//! operators.
 #![tactic(auto)]
 
 mod admitting;
@@ -13,6 +14,7 @@ mod peers;
 mod pulling;
 mod run_tally;
 mod turns;
+mod watch;
 
 pub use calls::{Admission, AskedCall, CallResult, Caller, ReplyKind};
 pub use counts::{
@@ -25,3 +27,7 @@ pub use peers::Peers;
 pub use pulling::{AskedPull, Receipt};
 pub use run_tally::RunTally;
 pub use turns::{Readied, Wakeups};
+pub use watch::{
+    ClaimAlarm, CopyAlarm, CopyTroubles, CopyWarnings, DiskWarning, FailureAlarm, FillAlarm,
+    HangAlarm, UnloggedCount,
+};
