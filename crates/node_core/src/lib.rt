@@ -1,7 +1,7 @@
 //! A node's state besides its journal, as one value: what its threads hand to one another, what other
-//! nodes have of its facts, which calls are accepted, and how far its run is. It knows no thread, no
-//! lock, no socket and no clock: each moment is passed in. Beside it stands when a node warns its
-//! operators.
+//! nodes have of its facts, which calls are accepted, and how far its run is. Beside it stand what a
+//! node counts, and when it warns its operators. It knows no thread, no lock, no socket and no clock:
+//! each moment is passed in.
 #![tactic(auto)]
 
 mod admitting;
