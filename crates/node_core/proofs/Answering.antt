@@ -1,6 +1,6 @@
 -- What an answer waits for, what is known once a frame is given, and how long a pull is held.
-use Rattle.std.proofs.Common.{◌≡◌, ◌≢◌, ◌≤◌, ◌<◌, ◌+◌, ◌∙◌, ℕ, Bool, true, false, List, Option, None, Some, ap, arith, if◌then◌else◌, length, refl, subst, sym}
-use Rattle.std.specs.Prelude.{◌&&◌, ◌==◌, MatchBool, max, min, nat_lt}
+use Rattle.std.proofs.Common.{◌≡◌, ◌≢◌, ◌≤◌, ◌+◌, ◌∙◌, ℕ, Bool, true, false, List, Option, Some, ap, arith, if◌then◌else◌, length, refl, subst, sym}
+use Rattle.std.specs.Prelude.{◌==◌, MatchBool, min, nat_lt}
 use Rattle.std.specs.Duration.{as_nanos}
 use Rattle.std.specs.declared.time.Duration.{Duration}
 use Rattle.std.proofs.lemmas.Bool.{eq-eqb, lt-ltb}

@@ -1,10 +1,10 @@
 -- A node that is in doubt stores nothing more of its own.
-use Rattle.std.proofs.Common.{◌≡◌, ◌≤◌, ◌<◌, ◌-◌, ◌∙◌, ℕ, Bool, true, false, List, Option, None, Some, ap, arith, get_or, if◌then◌else◌, inl, inr, length, refl, subst, sym}
-use Rattle.std.specs.Prelude.{◌&&◌, ◌||◌, ◌==◌, IsTrue, MatchBool, max, nat_le, nat_lt, not, slice_set}
+use Rattle.std.proofs.Common.{◌≡◌, ◌≤◌, ◌<◌, ◌-◌, ◌∙◌, ℕ, Bool, true, false, List, arith, if◌then◌else◌, length, refl, subst, sym}
+use Rattle.std.specs.Prelude.{◌&&◌, ◌||◌, ◌==◌, IsTrue, MatchBool, max, nat_le, not}
 use Rattle.std.specs.declared.time.Duration.{Duration}
-use Rattle.std.proofs.lemmas.Bool.{cases_eq, eqb-true, le-leb, leb-true, lt-leb, not-true}
+use Rattle.std.proofs.lemmas.Bool.{eqb-true, le-leb, lt-leb}
 use Rattle.std.proofs.lemmas.List.{get_or-set_same}
-use Rattle.state_ids.specs.Fronts.{count, join_fronts}
+use Rattle.state_ids.specs.Fronts.{count}
 use Rattle.state_ids.specs.declared.TheConstants.{LAST_NUMBER}
 use Rattle.state_ids.proofs.Pairs.{join_above}
 use Rattle.theory_history.proofs.JoinedFronts.{length_join}

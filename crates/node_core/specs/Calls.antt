@@ -1,5 +1,5 @@
 -- Which calls are made at the desk, and what each of them leaves.
-use Rattle.std.specs.Prelude.{◌≡◌, ◌-◌, ◌&&◌, ◌||◌, ℕ, Bool, List, Option, MatchBool, None, Some, false, if◌then◌else◌, nat_lt, not, true}
+use Rattle.std.specs.Prelude.{◌≡◌, ◌-◌, ◌&&◌, ◌||◌, ℕ, Bool, Option, MatchBool, None, Some, false, if◌then◌else◌, nat_lt, not, true}
 use Rattle.std.specs.List.{list_any}
 use Rattle.std.specs.Duration.{as_nanos}
 use Rattle.std.specs.declared.time.Duration.{Duration}

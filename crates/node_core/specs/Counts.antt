@@ -1,5 +1,5 @@
 -- What a node counts for its operators.
-use Rattle.std.specs.Prelude.{◌+◌, ◌-◌, ◌^◌, ◌||◌, ℕ, Bool, List, Option, None, Some, false, if◌then◌else◌, min, nat_le, nat_lt, replicate, slice_index_or, slice_set, true}
+use Rattle.std.specs.Prelude.{◌+◌, ◌-◌, ◌^◌, ℕ, Bool, List, Option, None, Some, false, if◌then◌else◌, min, nat_lt, replicate, slice_index_or, slice_set, true}
 use Rattle.std.specs.declared.time.Duration.{Duration}
 use Rattle.state_ids.specs.declared.outcome.Outcome.TheVariants.{Busy, Done, Failed}
 use Rattle.wire_callbacks.specs.declared.answer.Heard.{Heard}

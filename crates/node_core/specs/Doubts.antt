@@ -1,5 +1,5 @@
 -- A node that is in doubt: another has facts of it that it never gave.
-use Rattle.std.specs.Prelude.{◌≡◌, ◌≤◌, false, length}
+use Rattle.std.specs.Prelude.{◌≡◌, ◌≤◌, false}
 use Rattle.state_ids.specs.Fronts.{count}
 use Rattle.state_ids.specs.declared.TheConstants.{LAST_NUMBER}
 use Rattle.node_agenda.specs.declared.start_state.StartState.{StartState}

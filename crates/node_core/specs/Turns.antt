@@ -1,5 +1,5 @@
 -- What the writer thread does between two calls.
-use Rattle.std.specs.Prelude.{◌≡◌, ◌↔◌, ◌&&◌, ◌||◌, ◌==◌, Bool, List, MatchBool, MatchOption, Option, None, Some, IsTrue, false, if◌then◌else◌, is_some, nat_lt, not, true}
+use Rattle.std.specs.Prelude.{◌≡◌, ◌↔◌, ◌&&◌, ◌||◌, ◌==◌, Bool, List, MatchOption, Option, IsTrue, false, if◌then◌else◌, is_some, not, true}
 use Rattle.std.specs.declared.time.Duration.{Duration}
 use Rattle.wire_callbacks.specs.declared.duty.Duty.{Duty}
 use Rattle.node_replication.specs.Followers.{IsGoing, kept, put_off_to, to_call}
