@@ -24,6 +24,7 @@ LAYERS = [
     ("node_threads", "threads, and what they share"),
     ("node_sockets", "a connection's life"),
     ("node_effects", "what a call leaves for other threads to do"),
+    ("theory_node", "laws of a node's state over all its calls"),
     ("node_core", "a node's state as one value"),
     ("node_agenda", "what the writer thread does next"),
     ("node_replication", "which nodes have stored what"),

@@ -1,0 +1,9 @@
+mod CallsPass
+mod Doubted
+mod Given
+mod PartsApart
+mod Passing
+mod Placed
+mod PullsPass
+mod StepsPass
+mod TurnsPass

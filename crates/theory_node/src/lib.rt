@@ -1,0 +1,4 @@
+//! Laws of a node's state over whatever calls come.
+#![tactic(auto)]
+
+pub mod laws;
