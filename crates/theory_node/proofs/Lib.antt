@@ -1,5 +1,6 @@
 mod CallsPass
 mod Doubted
+mod Example
 mod Given
 mod PartsApart
 mod Passing

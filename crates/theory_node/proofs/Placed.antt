@@ -1,5 +1,5 @@
 -- A node that is one of a group has its place.
-use Rattle.std.proofs.Common.{◌≡◌, ◌≤◌, ◌∙◌, arith, length, sym, replicate}
+use Rattle.std.proofs.Common.{◌≡◌, ◌≤◌, ◌∙◌, ℕ, arith, length, sym, replicate}
 use Rattle.std.proofs.lemmas.List.{length-replicate}
 use Rattle.node_core.specs.Nodes.{node_at_first}
 use Rattle.node_core.specs.declared.node_state.NodeState.{NodeState}

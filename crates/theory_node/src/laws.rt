@@ -6,6 +6,7 @@ ghost use Rattle.state_ids.specs.Fronts.{IsBelow, count};
 ghost use Rattle.state_ids.specs.declared.TheConstants.{LAST_NUMBER};
 ghost use Rattle.node_inbox.specs.Tellings.{Told};
 ghost use Rattle.node_replication.specs.Followers.{wants_any};
+ghost use Rattle.node_agenda.specs.Sweeps.{Sweeps as TheSweeps};
 ghost use Rattle.node_agenda.specs.Tasks.{StoresNothing};
 ghost use Rattle.node_agenda.specs.declared.task.Task.{Task as TheTask};
 ghost use Rattle.node_core.specs.Calls.{Admits, Admitted, IsSettled};
@@ -17,6 +18,7 @@ ghost use Rattle.node_core.specs.declared.calls.CallResult.{CallResult as TheRes
 ghost use Rattle.node_core.specs.declared.calls.ReplyKind.TheVariants.{Gave as ItGave};
 ghost use Rattle.node_core.specs.declared.node_state.NodeState.{NodeState as TheNode};
 ghost use Rattle.node_core.specs.declared.pulling.Receipt.TheVariants.{Newer as HasNewer};
+ghost use Rattle.theory_node.specs.Happenings.{DoubtGoesOn, DoubtIsCast, FactIsStored, FrameIsGiven, PullIsHeld};
 ghost use Rattle.theory_node.specs.Parts.{IsPartCall};
 ghost use Rattle.theory_node.specs.Steps.{AreSteps, IsApart, IsInDoubt, IsReached};
 
@@ -75,3 +77,13 @@ pub fn what_was_given_stays_known()
     who_is_in_doubt_stores_nothing();
     each_frame_that_was_given_is_known();
 }
+
+/// What these laws and those of `node_core` speak of happens to node 1 of two, however it sweeps its
+/// home. So no law is true only because nothing meets its premises.
+pub fn these_happen()
+    ensures given { (sweeping : TheSweeps) → FrameIsGiven }
+    ensures stored { (sweeping : TheSweeps) → FactIsStored }
+    ensures held { (sweeping : TheSweeps) → PullIsHeld }
+    ensures cast { (sweeping : TheSweeps) → DoubtIsCast }
+    ensures goes_on { (sweeping : TheSweeps) → DoubtGoesOn }
+{}
