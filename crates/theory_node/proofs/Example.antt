@@ -10,18 +10,21 @@ use Rattle.node_inbox.specs.Tellings.{Told}
 use Rattle.node_replication.specs.Steps.{second}
 use Rattle.node_replication.specs.declared.standing.PullDecision.TheVariants.{Serve}
 use Rattle.node_agenda.specs.Backlogs.{after_put}
-use Rattle.node_agenda.specs.Mail.{with_backlog, with_hurry, with_opening}
+use Rattle.node_agenda.specs.Mail.{with_backlog, with_hurry, with_known, with_last, with_opening}
 use Rattle.node_agenda.specs.Starts.{IsOpened}
 use Rattle.node_agenda.specs.Sweeps.{Sweeps}
+use Rattle.node_agenda.specs.Tasks.{has, turns_to}
 use Rattle.node_agenda.specs.declared.effects.Effects.{Effects}
 use Rattle.node_agenda.specs.declared.effects.Became.TheVariants.{Nothing as Same}
 use Rattle.node_agenda.specs.declared.effects.NewlyDue.TheVariants.{Nobody}
 use Rattle.node_agenda.specs.declared.start_state.StartState.{StartState}
-use Rattle.node_agenda.specs.declared.task.Task.TheVariants.{Rest}
+use Rattle.node_agenda.specs.declared.task.Task.TheVariants.{Count, Rest}
+use Rattle.node_agenda.specs.declared.turn.Turn.{Turn}
+use Rattle.node_agenda.specs.declared.turn.Turn.TheVariants.{OfChores, OfCount, OfDeadlines, OfDuties, OfErrand, OfLetters, OfTelling}
 use Rattle.node_core.specs.Calls.{Admitted, Admits, IsSettled, after_reply, after_step, begun_at, begun_by, counted_by, ended_at}
 use Rattle.node_core.specs.Nodes.{node_at_first, started, with_mail}
 use Rattle.node_core.specs.Pulls.{IsReceived, after_told, after_verdict}
-use Rattle.node_core.specs.Turns.{IsReadied}
+use Rattle.node_core.specs.Turns.{IsNext, IsReadied}
 use Rattle.node_core.specs.declared.calls.AskedCall.{AskedCall}
 use Rattle.node_core.specs.declared.calls.CallResult.{CallResult}
 use Rattle.node_core.specs.declared.calls.Caller.TheVariants.{Worker, Writer}
@@ -34,7 +37,7 @@ use Rattle.node_core.specs.declared.pulling.AskedPull.{AskedPull}
 use Rattle.node_core.specs.declared.pulling.Receipt.TheVariants.{Newer, Nothing}
 use Rattle.node_core.specs.declared.turns.Readied.{Readied}
 use Rattle.theory_node.specs.Happenings.{DoubtGoesOn, DoubtIsCast, FactIsStored, FrameIsGiven, PullIsHeld}
-use Rattle.theory_node.specs.Steps.{Admitting, Apart, AreSteps, AreStepsOver, IsInDoubt, IsStep, IsReached, Readying, Receiving, Settling, Starting}
+use Rattle.theory_node.specs.Steps.{Admitting, Apart, AreSteps, AreStepsOver, IsInDoubt, IsStep, IsReached, Readying, Receiving, Settling, Starting, TakingATask}
 
 abbrev settings : NodeSettings
 settings = record { is_apart = true; is_anew = false; copies = 1; patience = second 1; is_strict = false; max_calls = 1_000; max_moves = 1_000 }
@@ -70,8 +73,11 @@ to_count = record { enters = false; pulls = true }
 abbrev count_call : Admitted
 count_call = record { caller = Writer; place = 0; step = Other }
 
+abbrev at_task : Sweeps → NodeState
+at_task s = with_mail (with_last OfCount (with_known (record (at_start s).mail.known { is_to_count = false; counts_at = record { secs = 1; nanos = 50_000_000 } }) (at_start s).mail)) (at_start s)
+
 abbrev while_counting : Sweeps → NodeState
-while_counting s = begun_at 0 (second 1) (at_start s)
+while_counting s = begun_at 0 (second 1) (at_task s)
 
 abbrev counted : Sweeps → NodeState
 counted s = after_reply (Gave one) (counted_by (came_as (Gave one)) (ended_at 0 (while_counting s)))
@@ -101,17 +107,30 @@ abbrev stored : Sweeps → NodeState
 stored s = after_reply Stored (counted_by (came_as Stored) (after_step Enters Stored (second 1) (ended_at 0 (while_storing s))))
 
 -- node 2 sends more facts of node 1 than that
-abbrev in_doubt_put : Sweeps → NodeState
-in_doubt_put s = with_mail (with_backlog (after_put (told_by_2 five) (stored s).mail.backlog) (after_told (told_by_2 five) (stored s)).mail) (after_told (told_by_2 five) (stored s))
+abbrev in_doubt : Sweeps → NodeState
+in_doubt s = with_mail (with_backlog (after_put (told_by_2 five) (stored s).mail.backlog) (after_told (told_by_2 five) (stored s)).mail) (after_told (told_by_2 five) (stored s))
 
 -- a minute later it still doesn't open; and the writer thread is hurried
 abbrev still_shut : Sweeps → NodeState
-still_shut s = with_mail (with_opening (open_at false true (second 61) (in_doubt_put s).mail.opening) (in_doubt_put s).mail) (in_doubt_put s)
+still_shut s = with_mail (with_opening (open_at false true (second 61) (in_doubt s).mail.opening) (in_doubt s).mail) (in_doubt s)
 
 abbrev hurried : Sweeps → NodeState
 hurried s = with_mail (with_hurry true (still_shut s).mail) (still_shut s)
 
 -- ---- the calls
+is_task : (s : Sweeps) (kind : Turn) → has (second 1) (at_start s).mail kind ≡ true → turns_to OfDuties OfCount ≤ turns_to OfDuties kind
+is_task s OfDeadlines is = absurd cc
+is_task s OfCount is = omega arith
+is_task s OfLetters is = absurd cc
+is_task s OfTelling is = absurd cc
+is_task s OfDuties is = absurd cc
+is_task s OfChores is = absurd cc
+is_task s OfErrand is = absurd cc
+
+takes_task : (s : Sweeps) → IsNext (second 1) (at_start s) (at_task s) Count
+takes_task s =
+    record { next = Count; is = (Some OfCount, record { there = refl; first = is_task s }, record { is = refl; next = refl; rest = refl }); does = (refl, refl) }
+
 counts : (s : Sweeps) → IsSettled count_call (came_as (Gave one)) (second 1) (while_counting s) (counted s) None
 counts s = record {
   answered = ended_at 0 (while_counting s);
@@ -132,12 +151,12 @@ same_le n = omega arith
 below_same : (front : List ℕ) → IsBelow front front
 below_same front node = omega arith
 
-hears : (s : Sweeps) → IsReceived one 0 (told_by_2 one) (counted s) (heard s) Nothing (Some (told_by_2 one))
-hears s = record {
+hears : (s : Sweeps) → IsStep (counted s) (heard s)
+hears s = Receiving one 0 (told_by_2 one) Nothing (Some (told_by_2 one)) (record {
   is_new = false;
   put = record { put = Err (told_by_2 one); is = (λ news. news.1 (below_same one), refl, refl); rest = refl; news = refl; left_is = refl };
   means = refl;
-}
+})
 
 opens : (s : Sweeps) → IsReadied (second 1) (heard s) (opened s) is_readied
 opens s = record {
@@ -166,28 +185,52 @@ stores s = record {
 five_is_news : IsBelow five one → ⊥
 five_is_news below = absurd (omega (arith, below 1))
 
-doubts : (s : Sweeps) → IsReceived one 0 (told_by_2 five) (stored s) (in_doubt_put s) Newer None
+doubts : (s : Sweeps) → IsReceived one 0 (told_by_2 five) (stored s) (in_doubt s) Newer None
 doubts s = record {
   is_new = true;
   put = record { put = Ok None; is = ((refl, five_is_news), refl, refl); rest = refl; news = refl; left_is = refl };
   means = refl;
 }
 
--- ---- what happens
-reached_counting : (s : Sweeps) → IsReached (while_counting s)
-reached_counting s = record {
-  me = 1;
-  nodes = 2;
-  some = omega arith;
-  few = omega arith;
-  settings = settings;
-  sweeping = s;
-  steps = record {
-    states = at_start s ∷ (while_counting s ∷ []);
-    are = (Starting one refl, (Admitting Writer to_count 0 (second 1) (Some count_call) (refl, refl), refl));
-  };
-}
+-- ---- one step after another
+steps_and : (states : List NodeState) (old between new : NodeState) → AreStepsOver states old between → IsStep between new → AreStepsOver (states ++ new ∷ []) old new
+steps_and [] old between new is step = (subst (λ (n : NodeState). IsStep n new) is step, refl)
+steps_and (next ∷ states) old between new is step = (is.0, steps_and states next between new is.1 step)
 
+one_more : (old between new : NodeState) → AreSteps old between → IsStep between new → AreSteps old new
+one_more old between new steps step = record { states = steps.states ++ new ∷ []; are = steps_and steps.states old between new steps.are step }
+
+to_start : (s : Sweeps) → AreSteps (at_first s) (at_start s)
+to_start s = record { states = at_start s ∷ []; are = (Starting one refl, refl) }
+
+to_task : (s : Sweeps) → AreSteps (at_first s) (at_task s)
+to_task s = one_more (at_first s) (at_start s) (at_task s) (to_start s) (TakingATask (second 1) Count (takes_task s))
+
+to_counting : (s : Sweeps) → AreSteps (at_first s) (while_counting s)
+to_counting s = one_more (at_first s) (at_task s) (while_counting s) (to_task s) (Admitting Writer to_count 0 (second 1) (Some count_call) (refl, refl))
+
+to_counted : (s : Sweeps) → AreSteps (at_first s) (counted s)
+to_counted s = one_more (at_first s) (while_counting s) (counted s) (to_counting s) (Settling count_call (came_as (Gave one)) (second 1) None (counts s))
+
+to_heard : (s : Sweeps) → AreSteps (at_first s) (heard s)
+to_heard s = one_more (at_first s) (counted s) (heard s) (to_counted s) (hears s)
+
+to_opened : (s : Sweeps) → AreSteps (at_first s) (opened s)
+to_opened s = one_more (at_first s) (heard s) (opened s) (to_heard s) (Readying (second 1) is_readied (opens s))
+
+to_storing : (s : Sweeps) → AreSteps (at_first s) (while_storing s)
+to_storing s = one_more (at_first s) (opened s) (while_storing s) (to_opened s) (Admitting Worker to_store 0 (second 1) (Some store_call) (refl, refl))
+
+to_stored : (s : Sweeps) → AreSteps (at_first s) (stored s)
+to_stored s = one_more (at_first s) (while_storing s) (stored s) (to_storing s) (Settling store_call (came_as Stored) (second 1) (Some 2) (stores s))
+
+to_doubt : (s : Sweeps) → AreSteps (at_first s) (in_doubt s)
+to_doubt s = one_more (at_first s) (stored s) (in_doubt s) (to_stored s) (Receiving one 0 (told_by_2 five) Newer None (doubts s))
+
+reached_by : (n : NodeState) (s : Sweeps) → AreSteps (at_first s) n → IsReached n
+reached_by n s steps = record { me = 1; nodes = 2; some = omega arith; few = omega arith; settings = settings; sweeping = s; steps = steps }
+
+-- ---- what happens
 pub frame_given : (s : Sweeps) → FrameIsGiven
 frame_given s = record {
   admitted = count_call;
@@ -198,39 +241,11 @@ frame_given s = record {
   old = while_counting s;
   new = counted s;
   later = heard s;
-  reached = reached_counting s;
+  reached = reached_by (while_counting s) s (to_counting s);
   gave = refl;
   long = refl;
   settled = counts s;
-  steps = record { states = heard s ∷ []; are = (Receiving one 0 (told_by_2 one) Nothing (Some (told_by_2 one)) (hears s), refl) };
-}
-
-to_stored : (s : Sweeps) → AreSteps (at_first s) (stored s)
-to_stored s = record {
-  states = at_start s ∷ (while_counting s ∷ (counted s ∷ (heard s ∷ (opened s ∷ (while_storing s ∷ (stored s ∷ []))))));
-  are = (
-    Starting one refl,
-    (Admitting Writer to_count 0 (second 1) (Some count_call) (refl, refl),
-      (Settling count_call (came_as (Gave one)) (second 1) None (counts s),
-        (Receiving one 0 (told_by_2 one) Nothing (Some (told_by_2 one)) (hears s),
-          (Readying (second 1) is_readied (opens s),
-            (Admitting Worker to_store 0 (second 1) (Some store_call) (refl, refl), (Settling store_call (came_as Stored) (second 1) (Some 2) (stores s), refl)))))),
-  );
-}
-
-reached_by : (n : NodeState) (s : Sweeps) → AreSteps (at_first s) n → IsReached n
-reached_by n s steps = record { me = 1; nodes = 2; some = omega arith; few = omega arith; settings = settings; sweeping = s; steps = steps }
-
-to_storing : (s : Sweeps) → AreSteps (at_first s) (while_storing s)
-to_storing s = record {
-  states = at_start s ∷ (while_counting s ∷ (counted s ∷ (heard s ∷ (opened s ∷ (while_storing s ∷ [])))));
-  are = (
-    Starting one refl,
-    (Admitting Writer to_count 0 (second 1) (Some count_call) (refl, refl),
-      (Settling count_call (came_as (Gave one)) (second 1) None (counts s),
-        (Receiving one 0 (told_by_2 one) Nothing (Some (told_by_2 one)) (hears s),
-          (Readying (second 1) is_readied (opens s), (Admitting Worker to_store 0 (second 1) (Some store_call) (refl, refl), refl))))),
-  );
+  steps = record { states = heard s ∷ []; are = (hears s, refl) };
 }
 
 pub fact_stored : (s : Sweeps) → FactIsStored
@@ -275,7 +290,7 @@ doubt_cast s = record {
   told = told_by_2 five;
   left = None;
   old = stored s;
-  new = in_doubt_put s;
+  new = in_doubt s;
   reached = reached_by (stored s) s (to_stored s);
   wants = refl;
   entered = refl;
@@ -284,20 +299,12 @@ doubt_cast s = record {
   received = doubts s;
 }
 
--- the example goes on by one step
-steps_and : (states : List NodeState) (old between new : NodeState) → AreStepsOver states old between → IsStep between new → AreStepsOver (states ++ new ∷ []) old new
-steps_and [] old between new is step = (subst (λ (n : NodeState). IsStep n new) is step, refl)
-steps_and (next ∷ states) old between new is step = (is.0, steps_and states next between new is.1 step)
-
-one_more : (old between new : NodeState) → AreSteps old between → IsStep between new → AreSteps old new
-one_more old between new steps step = record { states = steps.states ++ new ∷ []; are = steps_and steps.states old between new steps.are step }
-
 last_few : 1 < LAST_NUMBER
 last_few = omega arith
 
-shut_at : (s : Sweeps) → IsReadied (second 60) (in_doubt_put s) (still_shut s) isnt_readied
+shut_at : (s : Sweeps) → IsReadied (second 60) (in_doubt s) (still_shut s) isnt_readied
 shut_at s = record {
-  released = in_doubt_put s;
+  released = in_doubt s;
   release = record { out = None; going = record { left = refl; out_is = refl }; goes = (refl, refl, refl); rest = refl };
   opening = (record {
     until = second 2;
@@ -313,7 +320,7 @@ shut_at s = record {
 
 pub doubt_goes_on : (s : Sweeps) → DoubtGoesOn
 doubt_goes_on s = record {
-  old = in_doubt_put s;
+  old = in_doubt s;
   new = hurried s;
   refused = hurried s;
   rested = still_shut s;
@@ -321,7 +328,7 @@ doubt_goes_on s = record {
   place = 0;
   now = second 60;
   task = Rest;
-  reached = reached_by (in_doubt_put s) s (one_more (at_first s) (stored s) (in_doubt_put s) (to_stored s) (Receiving one 0 (told_by_2 five) Newer None (doubts s)));
+  reached = reached_by (in_doubt s) s (to_doubt s);
   doubt = (refl, (refl, same_le LAST_NUMBER));
   steps = record {
     states = still_shut s ∷ (hurried s ∷ []);

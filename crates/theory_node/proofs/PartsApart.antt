@@ -12,7 +12,7 @@ use Rattle.node_agenda.specs.Mail.{Mail, after_news, hastened, to_count, with_as
 use Rattle.node_agenda.specs.Since.{asked_now}
 use Rattle.node_core.specs.Nodes.{with_followers}
 use Rattle.node_core.specs.declared.node_state.NodeState.{NodeState}
-use Rattle.theory_node.specs.Parts.{BeginsList, Counts, Ends as EndsMail, Hastens, HearsOfCall, Hurries, IsMailCall, IsPartCall, IsSwept, KeepsTelling, Logs, NotesLetter, OfMail, OfPeers, OfTally, EndsAll, PutsLetter, PutsTelling, Runs, Shuts, Spares, Stands, Stirs, TakesDue, Wants}
+use Rattle.theory_node.specs.Parts.{BeginsList, Counts, Ends, Hastens, HearsOfCall, Hurries, IsMailCall, IsPartCall, IsSwept, KeepsTelling, Logs, NotesLetter, OfMail, OfPeers, OfTally, Stops, PutsLetter, PutsTelling, Runs, Shuts, Spares, Stands, Stirs, TakesDue, Wants}
 use Rattle.theory_node.specs.Steps.{IsApart}
 use Rattle.theory_node.proofs.Passing.{MailSame, mail_moved}
 use Rattle.theory_node.proofs.PullsPass.{put_same}
@@ -36,7 +36,7 @@ mail_same old new (Spares until is) = mail_moved old (with_hold until old) new i
 mail_same old new (Hurries is) = mail_moved old (with_hurry true old) new is (refl, refl)
 mail_same old new (Hastens is) = mail_moved old (with_asking (hastened old.asking) old) new is (refl, refl)
 mail_same old new (Wants wanted is) = mail_moved old (with_wanted wanted old) new is (refl, refl)
-mail_same old new (EndsMail is) = mail_moved old (with_end old) new is (refl, refl)
+mail_same old new (Ends is) = mail_moved old (with_end old) new is (refl, refl)
 mail_same old new (Counts is) = mail_moved old (with_known (to_count old.known) old) new is (refl, refl)
 mail_same old new (PutsTelling told result is) = put_same told old new result is
 mail_same old new (KeepsTelling now told is) = mail_moved old (with_backlog new.backlog old) new is.rest (refl, refl)
@@ -65,4 +65,4 @@ apart old new (Logs wait is) = apart_as old (with_followers (with_wait wait old.
 apart old new (OfPeers peers is) = apart_as old (record old { peers = peers }) new is (record { opening = refl; known = refl; doubted = refl })
 apart old new (OfTally tally is) = apart_as old (record old { tally = tally }) new is (record { opening = refl; known = refl; doubted = refl })
 apart old new (Shuts is_shut is) = apart_as old (record old { is_shut = is_shut }) new is (record { opening = refl; known = refl; doubted = refl })
-apart old new (EndsAll is) = apart_as old (record old { is_ending = true }) new is (record { opening = refl; known = refl; doubted = refl })
+apart old new (Stops is) = apart_as old (record old { is_ending = true }) new is (record { opening = refl; known = refl; doubted = refl })

@@ -50,4 +50,4 @@ pub data IsPartCall (old new : NodeState) : Type 0 where
   OfPeers : (peers : Behaviour) → new ≡ record old { peers = peers } → IsPartCall old new
   OfTally : (tally : Tally) → new ≡ record old { tally = tally } → IsPartCall old new
   Shuts : (is_shut : Bool) → new ≡ record old { is_shut = is_shut } → IsPartCall old new
-  EndsAll : new ≡ record old { is_ending = true } → IsPartCall old new
+  Stops : new ≡ record old { is_ending = true } → IsPartCall old new
