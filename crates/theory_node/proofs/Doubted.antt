@@ -1,12 +1,12 @@
 -- One in doubt stays in doubt.
-use Rattle.std.proofs.Common.{◌≡◌, ◌<◌, ◌≤◌, ◌∙◌, ℕ, Bool, true, false, List, Option, None, Some, ap, if◌then◌else◌, length, refl, subst, sym}
+use Rattle.std.proofs.Common.{◌≡◌, ◌⊎◌, inl, inr, ◌<◌, ◌≤◌, ◌∙◌, ℕ, Bool, true, false, List, Option, None, Some, ap, if◌then◌else◌, length, refl, subst, sym}
 use Rattle.std.specs.Prelude.{◌&&◌, ◌==◌, MatchBool, MatchOption, nat_lt, not}
 use Rattle.std.specs.declared.time.Duration.{Duration}
-use Rattle.std.proofs.lemmas.Bool.{and_from, and_left}
+use Rattle.std.proofs.lemmas.Bool.{and_from, and_left, or_left}
 use Rattle.state_ids.specs.Fronts.{count}
 use Rattle.state_ids.specs.declared.TheConstants.{LAST_NUMBER}
 use Rattle.node_inbox.specs.Tellings.{Told}
-use Rattle.node_replication.specs.Followers.{wants_any}
+use Rattle.node_replication.specs.Followers.{refuses, wants_any}
 use Rattle.node_agenda.specs.Asks.{is_of_before}
 use Rattle.node_agenda.specs.Backlogs.{ended_of}
 use Rattle.node_agenda.specs.Mail.{Mail}
@@ -16,19 +16,21 @@ use Rattle.node_agenda.specs.declared.task.Task.{Task}
 use Rattle.node_agenda.specs.declared.task.Task.TheVariants.{Ask}
 use Rattle.node_core.specs.Calls.{Admitted, Admits, begun_at, begun_by, is_admitted, step_of}
 use Rattle.node_core.specs.Doubts.{IsBarred}
-use Rattle.node_core.specs.Nodes.{is_lost}
+use Rattle.node_core.specs.Nodes.{is_lost, node_at_first, unready}
 use Rattle.node_core.specs.Pulls.{IsHeard, IsReceived, after_told, casts_doubt, is_newer_than, meaning, refused_as}
 use Rattle.node_core.specs.Turns.{IsNext, IsNextOf}
 use Rattle.node_core.specs.declared.calls.AskedCall.{AskedCall}
 use Rattle.node_core.specs.declared.calls.Caller.TheVariants.{Worker}
 use Rattle.node_core.specs.declared.node_state.NodeState.{NodeState}
+use Rattle.node_core.specs.declared.node_state.Unready.{Unready}
+use Rattle.node_core.specs.declared.node_state.Unready.TheVariants.{Copies, Ending}
 use Rattle.node_core.specs.declared.pulling.Receipt.{Receipt}
 use Rattle.node_core.specs.declared.pulling.Receipt.TheVariants.{Lost, Newer, Outdated, Unanswered}
-use Rattle.theory_node.specs.Steps.{AreSteps, IsInDoubt, IsReached}
-use Rattle.theory_node.proofs.Passing.{MailSame, Passes}
+use Rattle.theory_node.specs.Steps.{AreSteps, IsInDoubt, IsReached, WasDoubted}
+use Rattle.theory_node.proofs.Passing.{MailSame}
 use Rattle.theory_node.proofs.Placed.{HasPlace, placed}
 use Rattle.theory_node.proofs.PullsPass.{HeardStays, put_same}
-use Rattle.theory_node.proofs.StepsPass.{steps_pass}
+use Rattle.theory_node.proofs.StepsPass.{AllPass, IsCaused, caused, steps_pass}
 use Rattle.theory_node.proofs.TurnsPass.{LookStays}
 
 -- a telling that casts doubt bars the node; and who is in doubt is refused
@@ -84,8 +86,8 @@ cast heard looks bars asked seen told old new left reached wants entered opens i
 -- ---- what stays so
 pub stays : HeardStays → LookStays → (old new : NodeState) → IsInDoubt old → AreSteps old new → count new.mail.known.front new.mail.opening.me < LAST_NUMBER → IsInDoubt new
 stays heard looks old new doubt steps few =
-    let passes : Passes old new = steps_pass heard looks old new steps in
-    (passes.doubted doubt.0, passes.barred doubt.1 few)
+    let passes : AllPass old new = steps_pass heard looks old new steps in
+    (passes.doubted doubt.0, passes.keeps.barred doubt.1 few)
 
 not_admitted : (admits : Bool) (A : Type 0) (old new : NodeState) (result : Option Admitted) → admits ≡ false → MatchBool admits A ((result ≡ None) × (new ≡ old))
     → (result ≡ None) × (new ≡ old)
@@ -94,10 +96,10 @@ not_admitted false A old new result no_one is = is
 
 pub refused : HeardStays → LookStays → IsRefused → (asked : AskedCall) (place : ℕ) (now : Duration) (old new later : NodeState) (result : Option Admitted) → IsInDoubt old → AreSteps old new
     → asked.enters ≡ true → Admits Worker asked place now new later result → (result ≡ None) × (later ≡ new)
-refused heard looks refuses asked place now old new later result doubt steps enters is =
+refused heard looks shuts_out asked place now old new later result doubt steps enters is =
     not_admitted (is_admitted Worker asked now new)
     ((result ≡ Some (record { caller = Worker; place = place; step = step_of Worker asked new })) × (later ≡ begun_at place now (begun_by (step_of Worker asked new) new))) new later result
-    (refuses now asked new ((steps_pass heard looks old new steps).doubted doubt.0) enters) is
+    (shuts_out now asked new ((steps_pass heard looks old new steps).doubted doubt.0) enters) is
 
 -- ---- what the writer thread does
 abbrev pub NothingStored : Type 0
@@ -113,3 +115,33 @@ rests heard looks nothing now old new later todo doubt steps few is =
     let barred : IsInDoubt new = stays heard looks old new doubt steps few in
     next_stores is.next todo new later
     (nothing now new.mail later.mail is.next (and_left new.mail.opening.is_open (not (is_spared now new.mail)) barred.1.0) is.is) is.does
+
+-- ---- what operators see
+says_copies : (is_ending refuses : Bool) (others : Option Unready) → is_ending ≡ false → refuses ≡ true
+    → (if is_ending then Some Ending else if refuses then Some Copies else others) ≡ Some Copies
+says_copies true refuses others goes_on is = absurd cc
+says_copies false true others goes_on is = refl
+says_copies false false others goes_on is = absurd cc
+
+pub says : HeardStays → LookStays → (now : Duration) (old new : NodeState) → IsInDoubt old → AreSteps old new → new.is_ending ≡ false → unready now new ≡ Some Copies
+says heard looks now old new doubt steps goes_on =
+    says_copies new.is_ending (refuses new.followers) _ goes_on
+    (or_left new.followers.is_doubted (wants_any new.followers && (new.followers.is_strict && new.followers.spread.is_short))
+    ((steps_pass heard looks old new steps).doubted doubt.0))
+
+-- ---- why a node is in doubt
+pub has_cause : HeardStays → LookStays → (n : NodeState) → IsReached n → n.followers.is_doubted ≡ true → WasDoubted n
+has_cause heard looks n is doubted = by (caused heard looks first n is.steps doubted)
+  where
+    first : NodeState
+    first = node_at_first is.me is.nodes is.settings is.sweeping
+
+    by : (first.followers.is_doubted ≡ true) ⊎ IsCaused first n → WasDoubted n
+    by (inl at_first) = absurd cc
+    by (inr it) = record {
+      told = it.told;
+      before = it.before;
+      reached = record { me = is.me; nodes = is.nodes; some = is.some; few = is.few; settings = is.settings; sweeping = is.sweeping; steps = it.since };
+      later = it.later;
+      casts = it.casts;
+    }

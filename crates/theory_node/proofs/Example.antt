@@ -1,8 +1,8 @@
 -- What the laws speak of happens to node 1 of two, which wants one copy. Its journal has one fact of its
 -- own. It counts its facts, hears from node 2, opens, and stores a second fact. Then node 2 sends five
 -- facts of node 1.
-use Rattle.std.proofs.Common.{◌≡◌, ◌<◌, ◌≤◌, ◌∷◌, ◌++◌, [], ℕ, Bool, true, false, List, Option, None, Some, arith, refl, subst}
-use Rattle.std.specs.Prelude.{Result, Err, Ok}
+use Rattle.std.proofs.Common.{◌≡◌, ◌<◌, ◌≤◌, ◌∷◌, ◌++◌, [], ℕ, Bool, true, false, List, None, Some, arith, refl, subst}
+use Rattle.std.specs.Prelude.{Err, Ok}
 use Rattle.std.specs.declared.time.Duration.{Duration}
 use Rattle.state_ids.specs.Fronts.{IsBelow}
 use Rattle.state_ids.specs.declared.TheConstants.{LAST_NUMBER}
@@ -11,7 +11,6 @@ use Rattle.node_replication.specs.Steps.{second}
 use Rattle.node_replication.specs.declared.standing.PullDecision.TheVariants.{Serve}
 use Rattle.node_agenda.specs.Backlogs.{after_put}
 use Rattle.node_agenda.specs.Mail.{with_backlog, with_hurry, with_known, with_last, with_opening}
-use Rattle.node_agenda.specs.Starts.{IsOpened}
 use Rattle.node_agenda.specs.Sweeps.{Sweeps}
 use Rattle.node_agenda.specs.Tasks.{has, turns_to}
 use Rattle.node_agenda.specs.declared.effects.Effects.{Effects}
@@ -21,7 +20,7 @@ use Rattle.node_agenda.specs.declared.start_state.StartState.{StartState}
 use Rattle.node_agenda.specs.declared.task.Task.TheVariants.{Count, Rest}
 use Rattle.node_agenda.specs.declared.turn.Turn.{Turn}
 use Rattle.node_agenda.specs.declared.turn.Turn.TheVariants.{OfChores, OfCount, OfDeadlines, OfDuties, OfErrand, OfLetters, OfTelling}
-use Rattle.node_core.specs.Calls.{Admitted, Admits, IsSettled, after_reply, after_step, begun_at, begun_by, counted_by, ended_at}
+use Rattle.node_core.specs.Calls.{Admitted, IsSettled, after_reply, after_step, begun_at, begun_by, counted_by, ended_at}
 use Rattle.node_core.specs.Nodes.{node_at_first, started, with_mail}
 use Rattle.node_core.specs.Pulls.{IsReceived, after_told, after_verdict}
 use Rattle.node_core.specs.Turns.{IsNext, IsReadied}
@@ -37,7 +36,7 @@ use Rattle.node_core.specs.declared.pulling.AskedPull.{AskedPull}
 use Rattle.node_core.specs.declared.pulling.Receipt.TheVariants.{Newer, Nothing}
 use Rattle.node_core.specs.declared.turns.Readied.{Readied}
 use Rattle.theory_node.specs.Happenings.{DoubtGoesOn, DoubtIsCast, FactIsStored, FrameIsGiven, PullIsHeld}
-use Rattle.theory_node.specs.Steps.{Admitting, Apart, AreSteps, AreStepsOver, IsInDoubt, IsStep, IsReached, Readying, Receiving, Settling, Starting, TakingATask}
+use Rattle.theory_node.specs.Steps.{Admitting, Apart, AreSteps, AreStepsOver, IsStep, IsReached, Readying, Receiving, Settling, Starting, TakingATask}
 
 abbrev settings : NodeSettings
 settings = record { is_apart = true; is_anew = false; copies = 1; patience = second 1; is_strict = false; max_calls = 1_000; max_moves = 1_000 }
@@ -162,14 +161,17 @@ opens : (s : Sweeps) → IsReadied (second 1) (heard s) (opened s) is_readied
 opens s = record {
   released = heard s;
   release = record { out = None; going = record { left = refl; out_is = refl }; goes = (refl, refl, refl); rest = refl };
-  opening = (record {
-    until = second 2;
-    next = second 2;
-    by = refl;
-    opens = (λ is. (refl, (refl, below_same one)), λ is. refl);
-    looks = refl;
-    rest = refl;
-  }, refl);
+  opening = (
+    record {
+      until = second 2;
+      next = second 2;
+      by = refl;
+      opens = (λ is. (refl, (refl, below_same one)), λ is. refl);
+      looks = refl;
+      rest = refl;
+    },
+    refl,
+  );
   resumed = (refl, refl);
   rest = refl;
 }
@@ -306,14 +308,17 @@ shut_at : (s : Sweeps) → IsReadied (second 60) (in_doubt s) (still_shut s) isn
 shut_at s = record {
   released = in_doubt s;
   release = record { out = None; going = record { left = refl; out_is = refl }; goes = (refl, refl, refl); rest = refl };
-  opening = (record {
-    until = second 2;
-    next = second 61;
-    by = refl;
-    opens = (λ is. absurd cc, λ is. absurd cc);
-    looks = refl;
-    rest = refl;
-  }, refl);
+  opening = (
+    record {
+      until = second 2;
+      next = second 61;
+      by = refl;
+      opens = (λ is. absurd cc, λ is. absurd cc);
+      looks = refl;
+      rest = refl;
+    },
+    refl,
+  );
   resumed = (refl, refl);
   rest = refl;
 }

@@ -23,7 +23,7 @@ GivenIsKnown =
     → length front ≡ length old.mail.known.front → IsSettled a came now old new ticket → IsBelow front new.mail.known.front
 
 pub grows : HeardStays → LookStays → (old new : NodeState) → AreSteps old new → IsBelow old.mail.known.front new.mail.known.front
-grows heard looks old new steps = (steps_pass heard looks old new steps).known
+grows heard looks old new steps = (steps_pass heard looks old new steps).keeps.known
 
 pub known : HeardStays → LookStays → GivenIsKnown → (a : Admitted) (came : CallResult) (now : Duration) (old new later : NodeState) (ticket : Option ℕ) (front : List ℕ)
     → came.kind ≡ Gave front → length front ≡ length old.mail.known.front → IsSettled a came now old new ticket → AreSteps new later → IsBelow front later.mail.known.front

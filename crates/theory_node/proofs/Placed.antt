@@ -4,7 +4,7 @@ use Rattle.std.proofs.lemmas.List.{length-replicate}
 use Rattle.node_core.specs.Nodes.{node_at_first}
 use Rattle.node_core.specs.declared.node_state.NodeState.{NodeState}
 use Rattle.theory_node.specs.Steps.{IsReached}
-use Rattle.theory_node.proofs.Passing.{Passes}
+use Rattle.theory_node.proofs.Passing.{Keeps}
 use Rattle.theory_node.proofs.PullsPass.{HeardStays}
 use Rattle.theory_node.proofs.StepsPass.{steps_pass}
 use Rattle.theory_node.proofs.TurnsPass.{LookStays}
@@ -19,7 +19,7 @@ within me node nodes long some few is all = (omega (arith, some, is), omega (ari
 pub placed : HeardStays → LookStays → (n : NodeState) → IsReached n → HasPlace n
 placed heard looks n is =
     let first : NodeState = node_at_first is.me is.nodes is.settings is.sweeping in
-    let passes : Passes first n = steps_pass heard looks first n is.steps in
+    let passes : Keeps first n = (steps_pass heard looks first n is.steps).keeps in
     let zeros : length (replicate is.nodes 0) ≡ is.nodes = length-replicate is.nodes 0 in
     let me : n.mail.opening.me ≡ is.me = passes.me in
     let long : length n.mail.opening.awaited ≡ is.nodes = passes.long ∙ zeros in

@@ -1,5 +1,5 @@
 -- What other nodes' pulls say, and what they send, passes.
-use Rattle.std.proofs.Common.{◌≡◌, ◌-◌, ◌∙◌, ℕ, Bool, true, false, List, Option, None, Some, ap, arith, if◌then◌else◌, length, refl, subst, sym}
+use Rattle.std.proofs.Common.{inr, ◌≡◌, ◌-◌, ◌∙◌, ℕ, Bool, true, false, List, Option, None, Some, ap, arith, if◌then◌else◌, length, refl, subst, sym}
 use Rattle.std.specs.Prelude.{◌==◌, ◌&&◌, MatchBool, MatchOption, Result, Ok, Err, is_some, max, nat_le, nat_lt, not}
 use Rattle.std.specs.declared.time.Duration.{Duration}
 use Rattle.std.proofs.lemmas.Bool.{eqb-true, or_left}
@@ -27,7 +27,7 @@ use Rattle.node_core.specs.declared.node_state.NodeState.{NodeState}
 use Rattle.node_core.specs.declared.pulling.AskedPull.{AskedPull}
 use Rattle.node_core.specs.declared.pulling.Receipt.{Receipt}
 use Rattle.theory_node.proofs.CallsPass.{learns}
-use Rattle.theory_node.proofs.Passing.{MailSame, Passes, and_then, mail_moved, mail_passes, moved, opening_passes, same, untouched}
+use Rattle.theory_node.proofs.Passing.{MailSame, Passes, StepPasses, step_then, without_doubt, and_then, mail_moved, mail_passes, moved, opening_passes, same, untouched}
 
 -- ---- a pull
 -- what another claims bars no less
@@ -141,25 +141,28 @@ shut_by : (wants entered newer opens : Bool) → opens ≡ false → ((wants && 
 shut_by wants entered newer opens is casts =
     shut wants entered newer (subst (λ (b : Bool). ((wants && entered) && (newer && b)) ≡ true) is casts)
 
-doubts : (told : Told) (n : NodeState) → casts_doubt told n ≡ true → Passes n (in_doubt (heard_of told n))
+doubts : (told : Told) (n : NodeState) → casts_doubt told n ≡ true → StepPasses n (in_doubt (heard_of told n))
 doubts told n casts =
     let o : StartState = n.mail.opening in
     let h : StartState = heard_by told.from told.frame.front n.mail.known.front o in
     let here : Bool = length told.frame.front == length o.awaited in
     record {
-      me = heard_me told.from told.frame.front n.mail.known.front o here;
-      long =
-          at_long h.me (max (count h.awaited h.me) LAST_NUMBER) h.awaited (nat_le h.me (length h.awaited)) refl
-          ∙ heard_long told.from told.frame.front n.mail.known.front o here refl;
-      sizes = refl;
-      known = λ node. omega arith;
+      keeps = record {
+        me = heard_me told.from told.frame.front n.mail.known.front o here;
+        long =
+            at_long h.me (max (count h.awaited h.me) LAST_NUMBER) h.awaited (nat_le h.me (length h.awaited)) refl
+            ∙ heard_long told.from told.frame.front n.mail.known.front o here refl;
+        sizes = refl;
+        known = λ node. omega arith;
+        barred = λ barred few. absurd (shut_by (wants_any n.followers) n.has_entered (is_newer_than told n) o.is_open barred.0 casts);
+      };
       doubted = λ doubted. or_left n.followers.is_doubted (wants_any n.followers) doubted;
-      barred = λ barred few. absurd (shut_by (wants_any n.followers) n.has_entered (is_newer_than told n) o.is_open barred.0 casts);
+      cause = λ doubted. inr (told, casts);
     }
 
-tells_if : HeardStays → (told : Told) (n : NodeState) (casts : Bool) → casts_doubt told n ≡ casts → Passes n (if casts then in_doubt (heard_of told n) else heard_of told n)
+tells_if : HeardStays → (told : Told) (n : NodeState) (casts : Bool) → casts_doubt told n ≡ casts → StepPasses n (if casts then in_doubt (heard_of told n) else heard_of told n)
 tells_if heard told n true is = doubts told n is
-tells_if heard told n false is = hears_of heard told n
+tells_if heard told n false is = without_doubt n (heard_of told n) (hears_of heard told n)
 
 pub put_same : (told : Told) (old new : Mail) (put : Result (Option Told) Told) → IsPutIn told old new put → MailSame old new
 put_same told old new (Ok left) is = mail_moved old (with_backlog (after_put told old.backlog) old) new is.2 (refl, refl)
@@ -170,13 +173,13 @@ puts told old new is_new left is =
     moved old (with_mail new.mail old) new is.rest (mail_passes old (with_mail new.mail old) (put_same told old.mail new.mail is.put is.is) refl)
 
 receives : HeardStays → (refusal : Option Receipt) (asked : List ℕ) (told : Told) (old new : NodeState) (receipt : Receipt) (left : Option Told)
-    → MatchOption refusal (IsHeard asked told old new receipt left) (λ (refused : Receipt). (receipt ≡ refused) × (left ≡ Some told) × (new ≡ old)) → Passes old new
+    → MatchOption refusal (IsHeard asked told old new receipt left) (λ (refused : Receipt). (receipt ≡ refused) × (left ≡ Some told) × (new ≡ old)) → StepPasses old new
 receives heard None asked told old new receipt left is =
-    and_then old (after_told told old) new (tells_if heard told old (casts_doubt told old) refl) (puts told (after_told told old) new is.is_new left is.put)
-receives heard (Some refused) asked told old new receipt left is = moved old old new is.2 (same old)
+    step_then old (after_told told old) new (tells_if heard told old (casts_doubt told old) refl) (puts told (after_told told old) new is.is_new left is.put)
+receives heard (Some refused) asked told old new receipt left is = without_doubt old new (moved old old new is.2 (same old))
 
 pub receiving : HeardStays → (asked : List ℕ) (seen : ℕ) (told : Told) (old new : NodeState) (receipt : Receipt) (left : Option Told)
-    → IsReceived asked seen told old new receipt left → Passes old new
+    → IsReceived asked seen told old new receipt left → StepPasses old new
 receiving heard asked seen told old new receipt left is = receives heard (refused_as asked seen told old) asked told old new receipt left is
 
 -- ---- the end of a telling

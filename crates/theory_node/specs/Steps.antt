@@ -9,7 +9,7 @@ use Rattle.node_agenda.specs.declared.task.Task.{Task}
 use Rattle.node_core.specs.Calls.{Admits, Admitted, IsSettled, given_up, with_answer}
 use Rattle.node_core.specs.Doubts.{IsBarred}
 use Rattle.node_core.specs.Nodes.{as_looked, node_at_first, shown, started}
-use Rattle.node_core.specs.Pulls.{IsJudged, IsReceived, asked_by, with_end_of}
+use Rattle.node_core.specs.Pulls.{IsJudged, IsReceived, asked_by, casts_doubt, with_end_of}
 use Rattle.node_core.specs.Turns.{IsHandedOn, IsListPut, IsNext, IsReadied}
 use Rattle.node_core.specs.declared.calls.AskedCall.{AskedCall}
 use Rattle.node_core.specs.declared.calls.CallResult.{CallResult}
@@ -21,15 +21,16 @@ use Rattle.node_core.specs.declared.pulling.Receipt.{Receipt}
 use Rattle.node_core.specs.declared.turns.Readied.{Readied}
 use Rattle.node_core.specs.declared.turns.Wakeups.{Wakeups}
 
--- What threads do to one part of the state by itself, without a call of the state, leaves alone the
--- opening, the node's own front, and whether the node is in doubt. A law says so of each such call
+-- What threads do to one part by itself, without a call of the state, leaves alone the opening, the
+-- node's own front, and whether the node is in doubt. A law says so of each call that they make
 pub record IsApart (old new : NodeState) : Type 0 where
   pub opening : new.mail.opening ≡ old.mail.opening
   pub known : new.mail.known.front ≡ old.mail.known.front
   pub doubted : new.followers.is_doubted ≡ old.followers.is_doubted
 
 -- One step: a call of the state, as its clauses say what it leaves; or something else that is done to
--- one part by itself
+-- one part by itself. The order is left open: a call may end that never began. So what holds whatever
+-- steps come, holds of those that a node takes
 pub data IsStep (old new : NodeState) : Type 0 where
   Starting : (front : List ℕ) → new ≡ started front old → IsStep old new
   Admitting : (caller : Caller) (asked : AskedCall) (place : ℕ) (now : Duration) (result : Option Admitted) → Admits caller asked place now old new result → IsStep old new
@@ -54,7 +55,7 @@ pub record AreSteps (old new : NodeState) : Type 0 where
   pub states : List NodeState
   pub are : AreStepsOver states old new
 
--- a state that a node comes to, which is one of a group
+-- a state that a node comes to, if it is one of a group of this size
 pub record IsReached (n : NodeState) : Type 0 where
   pub me : ℕ
   pub nodes : ℕ
@@ -64,7 +65,14 @@ pub record IsReached (n : NodeState) : Type 0 where
   pub sweeping : Sweeps
   pub steps : AreSteps (node_at_first me nodes settings sweeping) n
 
--- The node is in doubt: another has facts of it that it never gave. So nothing of its own is stored
--- from here on
+-- the node is in doubt: another has facts of it that it never gave, so nothing of its own is stored
 abbrev pub IsInDoubt : NodeState → Type 0
 IsInDoubt n = (n.followers.is_doubted ≡ true) × IsBarred n.mail.opening
+
+-- on its way to this state the node was told something that cast doubt on it
+pub record WasDoubted (n : NodeState) : Type 0 where
+  pub told : Told
+  pub before : NodeState
+  pub reached : IsReached before
+  pub later : AreSteps before n
+  pub casts : casts_doubt told before ≡ true

@@ -1,6 +1,6 @@
 // Laws of a node's state over whatever calls come. Each function does nothing, and its contract is the
 // law.
-ghost use Rattle.std.specs.Prelude.{◌≡◌, ◌<◌, ◌≤◌, ℕ, List, None, Option, length, true};
+ghost use Rattle.std.specs.Prelude.{◌≡◌, ◌<◌, ◌≤◌, ℕ, List, None, Option, Some, false, length, true};
 ghost use Rattle.std.specs.declared.time.Duration.{Duration as TheDuration};
 ghost use Rattle.state_ids.specs.Fronts.{IsBelow, count};
 ghost use Rattle.state_ids.specs.declared.TheConstants.{LAST_NUMBER};
@@ -10,6 +10,7 @@ ghost use Rattle.node_agenda.specs.Sweeps.{Sweeps as TheSweeps};
 ghost use Rattle.node_agenda.specs.Tasks.{StoresNothing};
 ghost use Rattle.node_agenda.specs.declared.task.Task.{Task as TheTask};
 ghost use Rattle.node_core.specs.Calls.{Admits, Admitted, IsSettled};
+ghost use Rattle.node_core.specs.Nodes.{unready};
 ghost use Rattle.node_core.specs.Pulls.{IsReceived, casts_doubt};
 ghost use Rattle.node_core.specs.Turns.{IsNext};
 ghost use Rattle.node_core.specs.declared.calls.AskedCall.{AskedCall as TheAsked};
@@ -17,21 +18,23 @@ ghost use Rattle.node_core.specs.declared.calls.Caller.TheVariants.{Worker as AW
 ghost use Rattle.node_core.specs.declared.calls.CallResult.{CallResult as TheResult};
 ghost use Rattle.node_core.specs.declared.calls.ReplyKind.TheVariants.{Gave as ItGave};
 ghost use Rattle.node_core.specs.declared.node_state.NodeState.{NodeState as TheNode};
+ghost use Rattle.node_core.specs.declared.node_state.Unready.TheVariants.{Copies as WantsCopies};
 ghost use Rattle.node_core.specs.declared.pulling.Receipt.TheVariants.{Newer as HasNewer};
 ghost use Rattle.theory_node.specs.Happenings.{DoubtGoesOn, DoubtIsCast, FactIsStored, FrameIsGiven, PullIsHeld};
 ghost use Rattle.theory_node.specs.Parts.{IsPartCall};
-ghost use Rattle.theory_node.specs.Steps.{AreSteps, IsApart, IsInDoubt, IsReached};
+ghost use Rattle.theory_node.specs.Steps.{AreSteps, IsApart, IsInDoubt, IsReached, WasDoubted};
 
 use node_agenda::laws::nothing_is_entered_before_the_others_are_heard;
 use node_core::laws::{each_frame_that_was_given_is_known, who_is_in_doubt_stores_nothing};
 
 /// What a thread does to one part of the state by itself leaves alone what a start waits for, how many
-/// facts the node is known to have, and whether it is in doubt. So it is a step of the other laws.
+/// facts the node knows of, and whether it is in doubt. So it is one of the steps of the other laws.
 pub fn what_is_done_to_one_part_is_apart()
     ensures { (old new : TheNode) → IsPartCall old new → IsApart old new }
 {}
 
-/// A node that is one of a group has a place in each list of a start, whatever calls came.
+/// A node of a group has a place in the lists of its state, whatever calls come. That is what the laws of
+/// `node_core` ask of a state.
 pub fn a_node_has_its_place()
     ensures { (n : TheNode) → IsReached n →
         (1 ≤ n.mail.opening.me) × (n.mail.opening.me ≤ length n.mail.opening.awaited)
@@ -40,10 +43,11 @@ pub fn a_node_has_its_place()
     who_is_in_doubt_stores_nothing();
 }
 
-/// One in doubt stays in doubt, whatever calls come. Once a telling is received that has facts of this
-/// node that it never gave, no worker's call is admitted that may store something. Until the node has
-/// all facts that there can be, commands stay barred too, and the writer thread has no task that stores
-/// something. A call that was admitted before may still store.
+/// One in doubt stays in doubt until its process ends, whatever calls come. A telling casts doubt if it has
+/// more facts of this node than this one knows of, although commands are accepted, a fact was stored, and
+/// copies are wanted. From then on no worker's call is admitted that may store something, and operators see
+/// why. Until the node has all facts that there can be, commands stay barred too, and the writer thread has
+/// no task that stores something. A call that was admitted before that may still store something.
 pub fn one_in_doubt_stays_in_doubt()
     ensures cast { (asked : List ℕ) (seen : ℕ) (told : Told) (old new : TheNode) (left : Option Told) →
         IsReached old → wants_any old.followers ≡ true → old.has_entered ≡ true → old.mail.opening.is_open ≡ true →
@@ -54,16 +58,25 @@ pub fn one_in_doubt_stays_in_doubt()
         IsInDoubt old → AreSteps old new → asked.enters ≡ true →
         Admits AWorker asked place now new later result → (result ≡ None) × (later ≡ new) }
     ensures rests { (now : TheDuration) (old new later : TheNode) (task : TheTask) →
-        IsInDoubt old → AreSteps old new →
-        count new.mail.known.front new.mail.opening.me < LAST_NUMBER →
+        IsInDoubt old → AreSteps old new → count new.mail.known.front new.mail.opening.me < LAST_NUMBER →
         IsNext now new later task → StoresNothing task }
+    ensures says { (now : TheDuration) (old new : TheNode) → IsInDoubt old → AreSteps old new →
+        new.is_ending ≡ false → unready now new ≡ Some WantsCopies }
 {
     who_is_in_doubt_stores_nothing();
     nothing_is_entered_before_the_others_are_heard();
 }
 
+/// Nobody is in doubt without a cause: at some moment since its start, the node received a telling that
+/// cast doubt on it.
+pub fn nobody_is_in_doubt_without_a_cause()
+    ensures { (n : TheNode) → IsReached n → n.followers.is_doubted ≡ true → WasDoubted n }
+{
+    who_is_in_doubt_stores_nothing();
+}
+
 /// What was given stays known: the front of a frame that a node gave stays below the node's own front,
-/// whatever calls come. So what casts doubt on a node has facts that no frame of this process had.
+/// whatever calls come. So a telling that casts doubt has facts of this node that no earlier frame of it had.
 pub fn what_was_given_stays_known()
     ensures grows { (old new : TheNode) → AreSteps old new → IsBelow old.mail.known.front new.mail.known.front }
     ensures known { (a : Admitted) (came : TheResult) (now : TheDuration) (old new later : TheNode) (ticket : Option ℕ) (front : List ℕ) →
@@ -78,8 +91,9 @@ pub fn what_was_given_stays_known()
     each_frame_that_was_given_is_known();
 }
 
-/// What these laws and those of `node_core` speak of happens to node 1 of two, however it sweeps its
-/// home. So no law is true only because nothing meets its premises.
+/// What these laws and those of `node_core` speak of does happen. Node 1 of two counts its facts, hears
+/// from node 2, accepts commands and stores a fact. A pull of node 2 waits for four seconds. Then node 2
+/// sends more facts of node 1 than there are, and node 1 is in doubt from then on.
 pub fn these_happen()
     ensures given { (sweeping : TheSweeps) → FrameIsGiven }
     ensures stored { (sweeping : TheSweeps) → FactIsStored }
