@@ -139,9 +139,9 @@ has_cause heard looks n is doubted = by (caused heard looks first n is.steps dou
     by : (first.followers.is_doubted ≡ true) ⊎ IsCaused first n → WasDoubted n
     by (inl at_first) = absurd cc
     by (inr it) = record {
-      told = it.told;
       before = it.before;
+      after = it.after;
       reached = record { me = is.me; nodes = is.nodes; some = is.some; few = is.few; settings = is.settings; sweeping = is.sweeping; steps = it.since };
+      cast = it.cast;
       later = it.later;
-      casts = it.casts;
     }

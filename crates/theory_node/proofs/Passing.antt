@@ -5,9 +5,7 @@ use Rattle.state_ids.specs.Fronts.{IsBelow, count}
 use Rattle.state_ids.specs.declared.TheConstants.{LAST_NUMBER}
 use Rattle.node_agenda.specs.Mail.{Mail}
 use Rattle.node_agenda.specs.declared.start_state.StartState.{StartState}
-use Rattle.node_inbox.specs.Tellings.{Told}
 use Rattle.node_core.specs.Doubts.{IsBarred}
-use Rattle.node_core.specs.Pulls.{casts_doubt}
 use Rattle.node_core.specs.declared.node_state.NodeState.{NodeState}
 use Rattle.theory_node.specs.Steps.{IsApart}
 
@@ -110,22 +108,18 @@ opening_passes old new known doubted me long barred = record {
   doubted = doubted;
 }
 
--- what a step does of a call: who is in doubt stays so, and who comes to be in doubt was told something
--- that casts it
-abbrev pub Cause : NodeState → Type 0
-Cause old = (told : Told) × (casts_doubt told old ≡ true)
-
-pub record StepPasses (old new : NodeState) : Type 0 where
+-- what a step keeps: who is in doubt stays so, and who comes to be in doubt does so for this reason
+pub record StepPasses (Why : Type 0) (old new : NodeState) : Type 0 where
   pub keeps : Keeps old new
   pub doubted : old.followers.is_doubted ≡ true → new.followers.is_doubted ≡ true
-  pub cause : new.followers.is_doubted ≡ true → (old.followers.is_doubted ≡ true) ⊎ Cause old
+  pub cause : new.followers.is_doubted ≡ true → (old.followers.is_doubted ≡ true) ⊎ Why
 
-pub without_doubt : (old new : NodeState) → Passes old new → StepPasses old new
-without_doubt old new passes =
+pub without_doubt : (Why : Type 0) (old new : NodeState) → Passes old new → StepPasses Why old new
+without_doubt Why old new passes =
     record { keeps = passes.keeps; doubted = λ doubted. passes.doubted ∙ doubted; cause = λ doubted. inl (sym passes.doubted ∙ doubted) }
 
-pub step_then : (old between new : NodeState) → StepPasses old between → Passes between new → StepPasses old new
-step_then old between new a b = record {
+pub step_then : (Why : Type 0) (old between new : NodeState) → StepPasses Why old between → Passes between new → StepPasses Why old new
+step_then Why old between new a b = record {
   keeps = keeps_then old between new a.keeps b.keeps;
   doubted = λ doubted. b.doubted ∙ a.doubted doubted;
   cause = λ doubted. a.cause (sym b.doubted ∙ doubted);

@@ -1,8 +1,8 @@
 -- What other nodes' pulls say, and what they send, passes.
-use Rattle.std.proofs.Common.{inr, ◌≡◌, ◌-◌, ◌∙◌, ℕ, Bool, true, false, List, Option, None, Some, ap, arith, if◌then◌else◌, length, refl, subst, sym}
+use Rattle.std.proofs.Common.{◌⊎◌, inl, inr, ◌≡◌, ◌-◌, ◌∙◌, ℕ, Bool, true, false, List, Option, None, Some, ap, arith, if◌then◌else◌, length, refl, subst, sym}
 use Rattle.std.specs.Prelude.{◌==◌, ◌&&◌, MatchBool, MatchOption, Result, Ok, Err, is_some, max, nat_le, nat_lt, not}
 use Rattle.std.specs.declared.time.Duration.{Duration}
-use Rattle.std.proofs.lemmas.Bool.{eqb-true, or_left}
+use Rattle.std.proofs.lemmas.Bool.{and_parts, eqb-true, or_left}
 use Rattle.std.proofs.lemmas.List.{length-set}
 use Rattle.state_ids.specs.Fronts.{count}
 use Rattle.state_ids.specs.declared.TheConstants.{LAST_NUMBER}
@@ -14,7 +14,7 @@ use Rattle.node_replication.specs.Spreads.{counted, heard as spread_heard}
 use Rattle.node_replication.specs.declared.standing.PullDecision.{PullDecision}
 use Rattle.node_replication.specs.declared.standing.PullDecision.TheVariants.{Later, Serve}
 use Rattle.node_agenda.specs.Asks.{asked_by as counted_by}
-use Rattle.node_agenda.specs.Backlogs.{after_put}
+use Rattle.node_agenda.specs.Backlogs.{after_put, ended_of}
 use Rattle.node_agenda.specs.Hearing.{IsPutIn}
 use Rattle.node_agenda.specs.Mail.{Mail, with_backlog, with_end_of as mail_after, with_opening}
 use Rattle.node_agenda.specs.Starts.{claimed_by, count_at, heard_by, heard_now}
@@ -22,10 +22,12 @@ use Rattle.node_agenda.specs.declared.start_state.StartState.{StartState}
 use Rattle.node_core.specs.Doubts.{IsBarred}
 use Rattle.node_core.specs.Nodes.{as_stored, with_count, with_mail}
 use Rattle.node_core.specs.Peers.{asked_by as alive}
-use Rattle.node_core.specs.Pulls.{IsHeard, IsJudged, IsPutBy, IsReceived, IsWeighed, after_told, after_verdict, as_news, asked_by, casts_doubt, heard_asking, heard_of, in_doubt, is_claim, is_newer_than, owes, refused_as, taken_back, with_end_of}
+use Rattle.node_core.specs.Pulls.{IsHeard, IsJudged, IsPutBy, IsReceived, IsWeighed, after_told, after_verdict, as_news, asked_by, casts_doubt, heard_asking, heard_of, in_doubt, is_claim, is_newer_than, meaning, owes, refused_as, taken_back, with_end_of}
 use Rattle.node_core.specs.declared.node_state.NodeState.{NodeState}
 use Rattle.node_core.specs.declared.pulling.AskedPull.{AskedPull}
 use Rattle.node_core.specs.declared.pulling.Receipt.{Receipt}
+use Rattle.node_core.specs.declared.pulling.Receipt.TheVariants.{Newer}
+use Rattle.theory_node.specs.Steps.{IsCast}
 use Rattle.theory_node.proofs.CallsPass.{learns}
 use Rattle.theory_node.proofs.Passing.{MailSame, Passes, StepPasses, step_then, without_doubt, and_then, mail_moved, mail_passes, moved, opening_passes, same, untouched}
 
@@ -141,7 +143,7 @@ shut_by : (wants entered newer opens : Bool) → opens ≡ false → ((wants && 
 shut_by wants entered newer opens is casts =
     shut wants entered newer (subst (λ (b : Bool). ((wants && entered) && (newer && b)) ≡ true) is casts)
 
-doubts : (told : Told) (n : NodeState) → casts_doubt told n ≡ true → StepPasses n (in_doubt (heard_of told n))
+doubts : (told : Told) (n : NodeState) → casts_doubt told n ≡ true → StepPasses (casts_doubt told n ≡ true) n (in_doubt (heard_of told n))
 doubts told n casts =
     let o : StartState = n.mail.opening in
     let h : StartState = heard_by told.from told.frame.front n.mail.known.front o in
@@ -157,12 +159,13 @@ doubts told n casts =
         barred = λ barred few. absurd (shut_by (wants_any n.followers) n.has_entered (is_newer_than told n) o.is_open barred.0 casts);
       };
       doubted = λ doubted. or_left n.followers.is_doubted (wants_any n.followers) doubted;
-      cause = λ doubted. inr (told, casts);
+      cause = λ doubted. inr casts;
     }
 
-tells_if : HeardStays → (told : Told) (n : NodeState) (casts : Bool) → casts_doubt told n ≡ casts → StepPasses n (if casts then in_doubt (heard_of told n) else heard_of told n)
+tells_if : HeardStays → (told : Told) (n : NodeState) (casts : Bool) → casts_doubt told n ≡ casts
+    → StepPasses (casts_doubt told n ≡ true) n (if casts then in_doubt (heard_of told n) else heard_of told n)
 tells_if heard told n true is = doubts told n is
-tells_if heard told n false is = without_doubt n (heard_of told n) (hears_of heard told n)
+tells_if heard told n false is = without_doubt (casts_doubt told n ≡ true) n (heard_of told n) (hears_of heard told n)
 
 pub put_same : (told : Told) (old new : Mail) (put : Result (Option Told) Told) → IsPutIn told old new put → MailSame old new
 put_same told old new (Ok left) is = mail_moved old (with_backlog (after_put told old.backlog) old) new is.2 (refl, refl)
@@ -172,15 +175,60 @@ puts : (told : Told) (old new : NodeState) (is_new : Bool) (left : Option Told) 
 puts told old new is_new left is =
     moved old (with_mail new.mail old) new is.rest (mail_passes old (with_mail new.mail old) (put_same told old.mail new.mail is.put is.is) refl)
 
+-- what casts doubt has more facts of the node, and says so
+newer_of : (told : Told) (n : NodeState) → casts_doubt told n ≡ true → is_newer_than told n ≡ true
+newer_of told n casts =
+    (and_parts (is_newer_than told n) n.mail.opening.is_open
+    (and_parts (wants_any n.followers && n.has_entered) (is_newer_than told n && n.mail.opening.is_open) casts).1).0
+
+means_newer : (is_newer is_older is_new : Bool) (ended : ℕ) → is_newer ≡ true → meaning is_newer is_older is_new ended ≡ Newer
+means_newer true is_older is_new ended is = refl
+means_newer false is_older is_new ended is = absurd cc
+
+heard_casts : (asked : List ℕ) (told : Told) (old new : NodeState) (receipt : Receipt) (left : Option Told) → IsHeard asked told old new receipt left → casts_doubt told old ≡ true
+    → receipt ≡ Newer
+heard_casts asked told old new receipt left is casts =
+    is.means
+    ∙ means_newer (is_newer_than told old) (nat_lt (count told.frame.front told.from) (count asked told.from)) is.is_new (ended_of told.from old.mail.backlog)
+    (newer_of told old casts)
+
+abbrev Casts : Told → (old : NodeState) → Receipt → Type 0
+Casts told old receipt = (casts_doubt told old ≡ true) × (receipt ≡ Newer)
+
+for_newer : (told : Told) (old new : NodeState) (receipt : Receipt) → (casts_doubt told old ≡ true → receipt ≡ Newer) → StepPasses (casts_doubt told old ≡ true) old new
+    → StepPasses (Casts told old receipt) old new
+for_newer told old new receipt newer passes = record { keeps = passes.keeps; doubted = passes.doubted; cause = λ doubted. by (passes.cause doubted) }
+  where
+    by : (old.followers.is_doubted ≡ true) ⊎ (casts_doubt told old ≡ true) → (old.followers.is_doubted ≡ true) ⊎ Casts told old receipt
+    by (inl before) = inl before
+    by (inr casts) = inr (casts, newer casts)
+
 receives : HeardStays → (refusal : Option Receipt) (asked : List ℕ) (told : Told) (old new : NodeState) (receipt : Receipt) (left : Option Told)
-    → MatchOption refusal (IsHeard asked told old new receipt left) (λ (refused : Receipt). (receipt ≡ refused) × (left ≡ Some told) × (new ≡ old)) → StepPasses old new
+    → MatchOption refusal (IsHeard asked told old new receipt left) (λ (refused : Receipt). (receipt ≡ refused) × (left ≡ Some told) × (new ≡ old))
+    → StepPasses (Casts told old receipt) old new
 receives heard None asked told old new receipt left is =
-    step_then old (after_told told old) new (tells_if heard told old (casts_doubt told old) refl) (puts told (after_told told old) new is.is_new left is.put)
-receives heard (Some refused) asked told old new receipt left is = without_doubt old new (moved old old new is.2 (same old))
+    for_newer told old new receipt (heard_casts asked told old new receipt left is)
+    (step_then (casts_doubt told old ≡ true) old (after_told told old) new (tells_if heard told old (casts_doubt told old) refl)
+    (puts told (after_told told old) new is.is_new left is.put))
+receives heard (Some refused) asked told old new receipt left is = without_doubt (Casts told old receipt) old new (moved old old new is.2 (same old))
 
 pub receiving : HeardStays → (asked : List ℕ) (seen : ℕ) (told : Told) (old new : NodeState) (receipt : Receipt) (left : Option Told)
-    → IsReceived asked seen told old new receipt left → StepPasses old new
-receiving heard asked seen told old new receipt left is = receives heard (refused_as asked seen told old) asked told old new receipt left is
+    → IsReceived asked seen told old new receipt left → StepPasses (IsCast old new) old new
+receiving heard asked seen told old new receipt left is =
+    let passes : StepPasses (Casts told old receipt) old new = receives heard (refused_as asked seen told old) asked told old new receipt left is in
+    record { keeps = passes.keeps; doubted = passes.doubted; cause = λ doubted. by (passes.cause doubted) }
+  where
+    by : (old.followers.is_doubted ≡ true) ⊎ Casts told old receipt → (old.followers.is_doubted ≡ true) ⊎ IsCast old new
+    by (inl before) = inl before
+    by (inr casts) =
+        inr (record {
+          asked = asked;
+          seen = seen;
+          told = told;
+          left = left;
+          casts = casts.0;
+          received = subst (λ (r : Receipt). IsReceived asked seen told old new r left) casts.1 is;
+        })
 
 -- ---- the end of a telling
 learns_if : (is_taken : Bool) (front : List ℕ) (n : NodeState) → Passes n (with_mail (mail_after is_taken front n.mail) n)

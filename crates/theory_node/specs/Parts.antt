@@ -18,10 +18,11 @@ use Rattle.node_core.specs.Peers.{Behaviour}
 use Rattle.node_core.specs.Tallies.{Tally}
 use Rattle.node_core.specs.declared.node_state.NodeState.{NodeState}
 
--- Calls of the mailbox: a new list of duties is to be asked for, and now is; the journal is spared;
--- the writer thread is hurried, and told of deadlines; operators want something, or no longer do; the
--- program is to end; the node's facts are to be counted; a telling of another node waits, or waits
--- again; the home is swept; a letter waits, or is stored; a participant is called, and was
+-- Calls of the mailbox: a new list of duties is to be asked for, or is asked for now; nothing is stored
+-- for a while, because the journal failed; the writer thread checks whether the run is over; deadlines
+-- are checked at once; operators want a call, or take that back; the program is to end; the node's facts
+-- are to be counted; a telling waits, or waits again; the sweeps have seen something; a letter waits to
+-- be stored, or was stored; a participant is called, and answered or didn't
 pub data IsMailCall (old new : Mail) : Type 0 where
   Stirs : (makes_none_due : Bool) → new ≡ after_news makes_none_due old → IsMailCall old new
   BeginsList : (now : Duration) → IsAskedNow now old new → IsMailCall old new
@@ -39,9 +40,9 @@ pub data IsMailCall (old new : Mail) : Type 0 where
   TakesDue : (due : Option Duty) → IsDueFrom old new due → IsMailCall old new
   HearsOfCall : (time now : Duration) (came : Result Said Unheard) (plight : Option Plight) → HearsOf time now came old new plight → IsMailCall old new
 
--- Calls of one part: of the mailbox; of the followers, as an answer waits, a run begins or ends, or what
--- was late is logged; of the peers; and of the tally. And two flags: whether the journal is closed, and
--- that the program is about to end
+-- Calls of one part that the threads of a node make: of the mailbox; of the followers, if it is asked how
+-- an answer stands, if a run begins or ends, and if what was late is logged; of the peers; and of the
+-- tally. Two flags are set: whether the journal is closed, and that the program is about to end
 pub data IsPartCall (old new : NodeState) : Type 0 where
   OfMail : IsMailCall old.mail new.mail → new ≡ with_mail new.mail old → IsPartCall old new
   Stands : (ticket : ℕ) (since now : Duration) → new ≡ with_followers (standing_at ticket since now old.followers) old → IsPartCall old new

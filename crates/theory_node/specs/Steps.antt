@@ -18,6 +18,7 @@ use Rattle.node_core.specs.declared.node_state.NodeSettings.{NodeSettings}
 use Rattle.node_core.specs.declared.node_state.NodeState.{NodeState}
 use Rattle.node_core.specs.declared.pulling.AskedPull.{AskedPull}
 use Rattle.node_core.specs.declared.pulling.Receipt.{Receipt}
+use Rattle.node_core.specs.declared.pulling.Receipt.TheVariants.{Newer}
 use Rattle.node_core.specs.declared.turns.Readied.{Readied}
 use Rattle.node_core.specs.declared.turns.Wakeups.{Wakeups}
 
@@ -69,10 +70,19 @@ pub record IsReached (n : NodeState) : Type 0 where
 abbrev pub IsInDoubt : NodeState → Type 0
 IsInDoubt n = (n.followers.is_doubted ≡ true) × IsBarred n.mail.opening
 
--- on its way to this state the node was told something that cast doubt on it
-pub record WasDoubted (n : NodeState) : Type 0 where
+-- a telling is received that casts doubt
+pub record IsCast (old new : NodeState) : Type 0 where
+  pub asked : List ℕ
+  pub seen : ℕ
   pub told : Told
+  pub left : Option Told
+  pub casts : casts_doubt told old ≡ true
+  pub received : IsReceived asked seen told old new Newer left
+
+-- so it was on the way to this state
+pub record WasDoubted (n : NodeState) : Type 0 where
   pub before : NodeState
+  pub after : NodeState
   pub reached : IsReached before
-  pub later : AreSteps before n
-  pub casts : casts_doubt told before ≡ true
+  pub cast : IsCast before after
+  pub later : AreSteps after n

@@ -67,8 +67,7 @@ pub fn one_in_doubt_stays_in_doubt()
     nothing_is_entered_before_the_others_are_heard();
 }
 
-/// Nobody is in doubt without a cause: at some moment since its start, the node received a telling that
-/// cast doubt on it.
+/// Nobody is in doubt without a cause: since its start the node received a telling that cast doubt on it.
 pub fn nobody_is_in_doubt_without_a_cause()
     ensures { (n : TheNode) → IsReached n → n.followers.is_doubted ≡ true → WasDoubted n }
 {
