@@ -58,7 +58,7 @@ took_front : (a : View) (delta : Frame) (b : View) → IsTakeReply a delta Took 
 took_front a delta b (inl (e, takes)) = subst (λ (v : List ℕ). IsBelow delta.front v) (sym takes.taken.front) (below_right a.front delta.front)
 took_front a delta b (inr (refusal, e, why, same)) = absurd cc
 
-is_taken : (me now : ℕ) (a b : View) (call : Call) (reply : BookReply) (delta : Frame) → IsNext me a call now reply b → call ≡ Take delta → reply ≡ Took → IsBelow delta.front b.front
+pub is_taken : (me now : ℕ) (a b : View) (call : Call) (reply : BookReply) (delta : Frame) → IsNext me a call now reply b → call ≡ Take delta → reply ≡ Took → IsBelow delta.front b.front
 is_taken me now a b call reply delta next is took =
     took_front a delta b (subst (λ (c : Call). IsNext me a c now Took b) is (subst (λ (r : BookReply). IsNext me a call now r b) took next))
 
@@ -81,10 +81,10 @@ took_held me s t a b items delta played is = held_so_far me s a items t b delta 
 
 -- If more nodes have a fact than are missed, one of them is heard
 
-record Found (p q : ℕ → Bool) : Type 0 where
-  node : ℕ
-  first : p node ≡ true
-  other : q node ≡ false
+pub record Found (p q : ℕ → Bool) : Type 0 where
+  pub node : ℕ
+  pub first : p node ≡ true
+  pub other : q node ≡ false
 
 found_among : (p q : ℕ → Bool) (x : ℕ) (xs : List ℕ) (a b : Bool) → p x ≡ a → q x ≡ b → (length (filter q xs) < length (filter p xs) → Found p q)
     → length (cond b (x ∷ filter q xs) (filter q xs)) < length (cond a (x ∷ filter p xs) (filter p xs)) → Found p q
@@ -93,22 +93,22 @@ found_among p q x xs true true e f rest less = rest (omega (arith, less))
 found_among p q x xs false true e f rest less = rest (omega (arith, less))
 found_among p q x xs false false e f rest less = rest less
 
-found_in : (p q : ℕ → Bool) (xs : List ℕ) → length (filter q xs) < length (filter p xs) → Found p q
+pub found_in : (p q : ℕ → Bool) (xs : List ℕ) → length (filter q xs) < length (filter p xs) → Found p q
 found_in p q [] less = absurd (omega (arith, less))
 found_in p q (x ∷ xs) less = found_among p q x xs (p x) (q x) refl refl (found_in p q xs) less
 
-both : (a b : Bool) → (a && b) ≡ true → (a ≡ true) × (b ≡ true)
+pub both : (a b : Bool) → (a && b) ≡ true → (a ≡ true) × (b ≡ true)
 both true true e = (refl, refl)
 both true false e = absurd cc
 both false b e = absurd cc
 
-another : (node me : ℕ) → not (node == me) ≡ true → node ≡ me → ⊥
+pub another : (node me : ℕ) → not (node == me) ≡ true → node ≡ me → ⊥
 another node me e same = grind (arith, nat_tests)
 
-at_least : (n k : ℕ) → nat_le n k ≡ true → n ≤ k
+pub at_least : (n k : ℕ) → nat_le n k ≡ true → n ≤ k
 at_least n k e = grind (arith, nat_tests)
 
-is_heard : (apart heard : Bool) → apart ≡ true → (apart && not heard) ≡ false → heard ≡ true
+pub is_heard : (apart heard : Bool) → apart ≡ true → (apart && not heard) ≡ false → heard ≡ true
 is_heard true true e f = refl
 is_heard true false e f = absurd cc
 is_heard false heard e f = absurd cc

@@ -7,10 +7,14 @@ ghost use Rattle.wire_frames.specs.Frames.{Frame};
 ghost use Rattle.script_world.specs.Worlds.{State};
 ghost use Rattle.state_book.specs.declared.calls.Call.TheVariants.{Pull};
 ghost use Rattle.state_book.specs.declared.calls.Reply.TheVariants.{Gave};
+ghost use Rattle.state_book.specs.declared.calls.Call.TheVariants.{Take};
+ghost use Rattle.state_book.specs.declared.calls.Entry.{Entry};
+ghost use Rattle.state_book.specs.declared.calls.Reply.TheVariants.{Took};
 ghost use Rattle.state_book.specs.Next.{IsNext};
+ghost use Rattle.state_book.specs.Trails.{LeadsTo};
 ghost use Rattle.node_replication.specs.Spreads.{holders};
 ghost use Rattle.theory_trail.specs.Copies.{HearsEach, TakesIn, missed};
-ghost use Rattle.theory_trail.specs.NodeTrails.{IsPlayed, Item, trail_of};
+ghost use Rattle.theory_trail.specs.NodeTrails.{Arrival, IsPlayed, IsServed, Item, WasSent, trail_of};
 
 /// A frame that a node gives counts, for each node, at least as many facts as the giving node held
 /// at any earlier moment. So it has each fact that was stored before it was asked for.
@@ -32,15 +36,23 @@ pub fn a_front_that_is_told_is_held()
 /// a node, and its trail takes a frame of all other nodes but fewer than `wanted`, the node has its
 /// first n facts again, whatever it began with.
 pub fn a_lost_node_takes_back_what_was_copied()
-    ensures { (me wanted n : ℕ) (told : List ℕ) (heard : ℕ → Bool) (s t : State) (a b : View) (items : List Item) →
-        IsPlayed me s a items t b → wanted ≤ holders me n told → missed me (length told) heard < wanted →
-        HearsEach me heard told (trail_of items) → n ≤ count b.front me }
+    ensures { (me wanted n : ℕ) (told : List ℕ) (heard : ℕ → Bool) (a b : View) (trail : List Entry) →
+        LeadsTo me a trail b → wanted ≤ holders me n told → missed me (length told) heard < wanted →
+        HearsEach me heard told trail → n ≤ count b.front me }
 {}
 
 /// If a node takes a frame of each other node, the next number that it gives is new to all of them.
 pub fn its_numbers_go_on()
-    ensures { (me : ℕ) (told : List ℕ) (heard : ℕ → Bool) (s t : State) (a b : View) (items : List Item) →
-        IsPlayed me s a items t b → ((node : ℕ) → (node ≡ me → ⊥) → heard node ≡ true) →
-        HearsEach me heard told (trail_of items) → (node : ℕ) → (node ≡ me → ⊥) →
+    ensures { (me : ℕ) (told : List ℕ) (heard : ℕ → Bool) (a b : View) (trail : List Entry) →
+        LeadsTo me a trail b → ((node : ℕ) → (node ≡ me → ⊥) → heard node ≡ true) →
+        HearsEach me heard told trail → (node : ℕ) → (node ≡ me → ⊥) →
         count told node < count b.front me + 1 }
+{}
+
+/// A node of a world lacks none of its own facts: no frame brings it any that it doesn't have. So a node
+/// that lost its journal is none of a world until it has taken its facts back, and the two laws above
+/// speak of its trail alone.
+pub fn a_node_of_a_world_lacks_none_of_its_own_facts()
+    ensures { (me : ℕ) (s : State) (a : View) (delta : Frame) (frame : Arrival) →
+        IsServed me s a → WasSent s frame (Take delta) Took → count delta.front me ≤ count a.front me }
 {}

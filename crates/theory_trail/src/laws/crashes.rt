@@ -29,6 +29,7 @@ ghost use Rattle.state_book.specs.declared.calls.Call.TheVariants.{Command as En
 ghost use Rattle.state_book.specs.declared.calls.Entry.{Entry};
 ghost use Rattle.state_book.specs.declared.calls.Reply.{Reply as BookReply};
 ghost use Rattle.state_book.specs.Next.{IsNext};
+ghost use Rattle.theory_trail.specs.Answered.{IsHeld};
 ghost use Rattle.theory_trail.specs.Crashes.{AreTrailsWithCrashes, CanBeHeard, CanBeLost, GoesOn, Happening, Heard, Keeps, Lost, LostCall, lost_call, with_view};
 ghost use Rattle.theory_trail.specs.LastingCalls.{HasToCompensate, IsDone, IsEnded, IsEndedOrWaits, IsKept, IsNotLost, IsOvertaken, IsStillDue, IsToCompensate, ends_call};
 ghost use Rattle.theory_trail.specs.NodeTrails.{Arrival, Here, IsPlayed, IsServed, WasSent};
@@ -200,3 +201,11 @@ pub fn a_purge_loses_no_call()
     a_tree_goes_on_until_it_is_purged();
     what_is_at_its_end_stays_there();
 }
+
+/// What was answered is held for good. Servers do anything before and after an answer, and are killed at
+/// any moment and any number of times. The node answered by what it held, and it holds all that it held
+/// after the answer for good.
+pub fn what_was_answered_is_held()
+    ensures { (s t : State) (views ends : ℕ → View) (before after : List Happening) (turn : Turn) →
+        AreTrailsWithCrashes s views (before ++ Heard turn ∷ after) t ends → IsHeld turn t }
+{}
