@@ -1,5 +1,5 @@
 -- What was answered is held, also by servers that are killed.
-use Rattle.std.proofs.Common.{◌≡◌, ℕ, List, [], ◌∷◌, ◌++◌, refl, subst}
+use Rattle.std.proofs.Common.{ℕ, List, [], ◌∷◌, ◌++◌, refl, subst}
 use Rattle.state_facts.specs.Lists.{IsInside}
 use Rattle.state_facts.specs.declared.fact.Fact.{Fact}
 use Rattle.theory_history.specs.Views.{View}

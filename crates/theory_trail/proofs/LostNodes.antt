@@ -1,9 +1,10 @@
 -- What a trail alone says of fronts, whatever view it begins with. A node that lost its journal is none
 -- of a world, so this is what there is to say of it.
-use Rattle.std.proofs.Common.{◌≡◌, ◌≤◌, ◌<◌, ◌+◌, ◌==◌, ◌&&◌, inl, inr, ℕ, Bool, true, false, List, [], ◌∷◌, length, refl, sym, ap, subst, ◌∙◌, arith, Option, Some, None}
+use Rattle.std.proofs.Common.{◌≡◌, ◌≤◌, ◌<◌, ◌+◌, ◌==◌, inl, inr, ℕ, Bool, true, false, List, [], ◌∷◌, length, refl, sym, ap, subst, ◌∙◌, arith, Option, Some, None}
 use Rattle.std.specs.Prelude.{nat_le, not}
 use Rattle.std.specs.List.{range_with_len}
 use Rattle.std.specs.Option.{option_map_or}
+use Rattle.std.proofs.lemmas.Bool.{eqb-true, le-leb}
 use Rattle.state_ids.specs.Fronts.{IsBelow, count}
 use Rattle.state_ids.specs.Ids.{Id}
 use Rattle.state_ids.specs.declared.outcome.Verdict.TheVariants.{Cancel}
@@ -11,14 +12,13 @@ use Rattle.state_facts.specs.declared.command.Command.{Command}
 use Rattle.state_facts.specs.declared.command.Command.TheVariants.{Begin, Decide, Forgot, Join, Leave, Purge, Report, Told}
 use Rattle.state_forest.specs.declared.record.Record.{Record}
 use Rattle.theory_history.specs.Changes.{Change}
-use Rattle.theory_history.specs.Histories.{entries_of}
 use Rattle.theory_history.specs.Next.{changed, judge_on, next_view, overdue_on, view_by}
 use Rattle.theory_history.specs.Replies.{Accepted, AlreadyKnown, Denied, Judgement}
-use Rattle.theory_history.specs.Views.{View, record_at}
-use Rattle.theory_history.proofs.JoinedFronts.{below_left, below_right}
+use Rattle.theory_history.specs.Views.{View, empty_view, record_at}
+use Rattle.theory_history.proofs.JoinedFronts.{below_left}
 use Rattle.theory_history.proofs.OneMoreEntry.{below_raised}
 use Rattle.wire_frames.specs.Frames.{Frame}
-use Rattle.script_world.specs.Worlds.{State, front_of}
+use Rattle.script_world.specs.Worlds.{State}
 use Rattle.script_world.proofs.Moving.{frame_in}
 use Rattle.state_book.specs.declared.calls.Call.{Call}
 use Rattle.state_book.specs.declared.calls.Call.TheVariants.{Command as Enter, Take, Pull, Status, Member, Page, Record as Show, Survey, Duties, Expire, Sweep}
@@ -26,7 +26,7 @@ use Rattle.state_book.specs.declared.calls.Entry.{Entry}
 use Rattle.state_book.specs.declared.calls.Reply.{Reply as BookReply}
 use Rattle.state_book.specs.declared.calls.Reply.TheVariants.{Took}
 use Rattle.state_book.specs.Next.{IsNext, shows_so, view_expired, view_swept}
-use Rattle.state_book.specs.Trails.{LeadsTo}
+use Rattle.state_book.specs.Trails.{LeadsTo, entry}
 use Rattle.state_book.specs.Trees.{tree_shown_on}
 use Rattle.node_replication.specs.Spreads.{holders, is_holder}
 use Rattle.theory_trail.specs.Copies.{HearsEach, TakesIn, is_missed, missed}
@@ -127,3 +127,27 @@ new_to_all me told heard a b trail legal all hears node apart =
     let there = hears node apart (all node apart) in
     let held = taken_up me a b trail there.0 legal there.2 me in
     let counts = there.1 in omega (arith, held, counts)
+
+-- A lost disk: node 1 of two begins with nothing, and takes a frame of node 2
+
+itself : (n : ℕ) → nat_le n n ≡ true
+itself n = le-leb n n (omega arith)
+
+one_holder : (n : ℕ) → 1 ≤ holders 1 n (0 ∷ n ∷ [])
+one_holder n = rw (itself n) (omega arith)
+
+second_is_heard : (node : ℕ) (delta : Frame) → (node == 2) ≡ true → count (0 ∷ count delta.front 1 ∷ []) node ≤ count delta.front 1
+second_is_heard node delta e = subst (λ (n : ℕ). count (0 ∷ count delta.front 1 ∷ []) n ≤ count delta.front 1) (sym (eqb-true node 2 e)) (omega arith)
+
+pub a_disk_is_lost : (now : ℕ) (delta : Frame) (b : View) → IsNext 1 (empty_view 2) (Take delta) now Took b →
+    (trail : List Entry) × LeadsTo 1 (empty_view 2) trail b
+    × (1 ≤ holders 1 (count delta.front 1) (0 ∷ count delta.front 1 ∷ []))
+    × (missed 1 2 (λ node. node == 2) < 1)
+    × HearsEach 1 (λ node. node == 2) (0 ∷ count delta.front 1 ∷ []) trail
+a_disk_is_lost now delta b takes = (
+  entry (Take delta) now Took ∷ [],
+  (b, takes, refl),
+  one_holder (count delta.front 1),
+  omega arith,
+  λ node apart heard. (delta, second_is_heard node delta heard, inl (refl, refl)),
+)

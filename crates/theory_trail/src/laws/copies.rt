@@ -1,8 +1,8 @@
 // Laws of what other nodes have of a node's facts. Each function does nothing, and its contract is
 // the law.
-ghost use Rattle.std.specs.Prelude.{◌≡◌, ◌≤◌, ◌<◌, ◌+◌, ℕ, Bool, List, length, true};
+ghost use Rattle.std.specs.Prelude.{◌≡◌, ◌≤◌, ◌<◌, ◌+◌, ◌==◌, ◌∷◌, [], ℕ, Bool, List, length, true};
 ghost use Rattle.state_ids.specs.Fronts.{IsBelow, count};
-ghost use Rattle.theory_history.specs.Views.{View};
+ghost use Rattle.theory_history.specs.Views.{View, empty_view};
 ghost use Rattle.wire_frames.specs.Frames.{Frame};
 ghost use Rattle.script_world.specs.Worlds.{State};
 ghost use Rattle.state_book.specs.declared.calls.Call.TheVariants.{Pull};
@@ -34,11 +34,17 @@ pub fn a_front_that_is_told_is_held()
 
 /// A lost node gets its facts back. If at least `wanted` other nodes told that they have n facts of
 /// a node, and its trail takes a frame of all other nodes but fewer than `wanted`, the node has its
-/// first n facts again, whatever it began with.
+/// first n facts again, whatever it began with. A lost disk is such a case (`disk`): node 1 of two begins
+/// with nothing, and takes a frame of node 2 that counts as many of its facts as node 2 had told.
 pub fn a_lost_node_takes_back_what_was_copied()
-    ensures { (me wanted n : ℕ) (told : List ℕ) (heard : ℕ → Bool) (a b : View) (trail : List Entry) →
+    ensures taken_back { (me wanted n : ℕ) (told : List ℕ) (heard : ℕ → Bool) (a b : View) (trail : List Entry) →
         LeadsTo me a trail b → wanted ≤ holders me n told → missed me (length told) heard < wanted →
         HearsEach me heard told trail → n ≤ count b.front me }
+    ensures disk { (now : ℕ) (delta : Frame) (b : View) → IsNext 1 (empty_view 2) (Take delta) now Took b →
+        (trail : List Entry) × LeadsTo 1 (empty_view 2) trail b
+        × (1 ≤ holders 1 (count delta.front 1) (0 ∷ count delta.front 1 ∷ []))
+        × (missed 1 2 (λ node. node == 2) < 1)
+        × HearsEach 1 (λ node. node == 2) (0 ∷ count delta.front 1 ∷ []) trail }
 {}
 
 /// If a node takes a frame of each other node, the next number that it gives is new to all of them.
