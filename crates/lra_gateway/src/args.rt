@@ -1,9 +1,9 @@
 // What the words of the command line ask for.
 
 use crate::arg_texts::given_by;
+pub use crate::arg_values::Door;
+use crate::arg_values::{address_of, allowed_by, base_of, calls_of, doors_of, short_of, time_of};
 pub use crate::key::key_of;
-pub use crate::parts::Door;
-use crate::parts::{address_of, allowed_by, base_of, calls_of, doors_of, short_of, time_of};
 pub use crate::wrong_arg::GatewayError;
 use crate::wrong_arg::{stray, wrong, wrong_unless_full};
 use node_sockets::Peer;

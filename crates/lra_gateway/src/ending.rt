@@ -5,7 +5,7 @@ use crate::asking::{NodeAnswer, Question, ask_node, ask_now, look_at};
 use crate::exchange::Fail;
 use crate::names::NamedLra;
 use crate::reply::{ServiceAnswer, plain, refusal};
-use crate::showing::{goes_so, is_to_end};
+use crate::status_groups::{goes_so, is_to_end};
 use http::Method;
 use state_ids::LraStatus;
 use std::thread;

@@ -10,7 +10,7 @@ use crate::handing::{Handover, hand};
 use crate::names::{NamedLra, url_of};
 use crate::query::said;
 use crate::reply::{ServiceAnswer, json, plain, refusal};
-use crate::showing::{is_failed, is_recovering};
+use crate::status_groups::{is_failed, is_recovering};
 use http::Method;
 use serde_json::Value;
 use state_ids::{LraId, LraStatus};

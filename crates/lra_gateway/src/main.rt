@@ -4,6 +4,7 @@
 
 mod agent;
 mod arg_texts;
+mod arg_values;
 mod args;
 mod asking;
 mod ending;
@@ -16,15 +17,14 @@ mod key;
 mod listing;
 mod members;
 mod names;
-mod parts;
 mod port;
 mod query;
 mod reply;
 mod run;
 mod service;
 mod serving;
-mod showing;
 mod starting;
+mod status_groups;
 mod wrong_arg;
 
 use crate::agent::Platform;

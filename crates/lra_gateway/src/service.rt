@@ -29,7 +29,7 @@ enum ServiceCall {
 
 impl ServiceCall {
     /// Whether each node can answer it, not only the LRA's home.
-    fn is_told_by_all(self) -> bool {
+    fn is_known_to_all(self) -> bool {
         self == ServiceCall::Info || self == ServiceCall::Status
     }
 
@@ -130,15 +130,15 @@ fn act_here<R: Platform>(
     }
 }
 
-/// Makes the gateway beside an LRA's home do what is asked. If each node can answer and that
-/// gateway doesn't, another node is asked.
+/// Has the gateway beside an LRA's home do what is asked. If that gateway doesn't answer, and any
+/// node can answer the request, asks another node.
 fn act_there<R: Platform>(
     agent: &Agent<R>,
     errand: &Handover,
     lra: &NamedLra,
     act: ServiceCall,
 ) -> Result<ServiceAnswer, Fail> {
-    if !act.is_told_by_all() {
+    if !act.is_known_to_all() {
         return hand(agent, lra.group, lra.home, errand, act.repeat());
     }
     if errand.handed_for.is_none() {

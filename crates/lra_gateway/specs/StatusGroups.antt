@@ -1,4 +1,4 @@
--- What an LRA shows, in the terms in which services ask.
+-- Groups of statuses, by which services ask for LRAs.
 use Rattle.std.specs.Prelude.{◌||◌, Bool, true, false}
 use Rattle.state_ids.specs.declared.status.LraStatus.{LraStatus}
 use Rattle.state_ids.specs.declared.status.LraStatus.TheVariants.{Active, Cancelled, Cancelling, Closed, Closing, FailedToCancel, FailedToClose}

@@ -1,6 +1,6 @@
-// What an LRA shows, in the terms in which services ask.
+// Groups of statuses, by which services ask for LRAs.
 ghost use Rattle.std.specs.Prelude.{◌≡◌};
-ghost use Rattle.lra_gateway.specs.Showing.{goes_so, is_cancelled, is_closed, is_failed, is_recovering, is_to_end};
+ghost use Rattle.lra_gateway.specs.StatusGroups.{goes_so, is_cancelled, is_closed, is_failed, is_recovering, is_to_end};
 
 use state_ids::LraStatus;
 

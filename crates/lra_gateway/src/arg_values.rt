@@ -1,4 +1,4 @@
-// Single words of the command line.
+// Values of single arguments of the command line.
 
 use crate::wrong_arg::{GatewayError, wrong, wrong_unless_full};
 use node_sockets::Peer;
