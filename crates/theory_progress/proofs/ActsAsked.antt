@@ -144,7 +144,7 @@ due_asked S l m CompensateAct e = by (topmost_cancelled S l) refl e
               and_right (is_some links.compensate) _ g,
             )
 
-owed_due : (S : List Fact) (kind : Kind) (act : Act) (l : Id) (m : ℕ) → asks_to_act kind ≡ true → is_owed S kind act l m ≡ true → is_due S act l m ≡ true
+pub owed_due : (S : List Fact) (kind : Kind) (act : Act) (l : Id) (m : ℕ) → asks_to_act kind ≡ true → is_owed S kind act l m ≡ true → is_due S act l m ≡ true
 owed_due S Complete CompleteAct l m asks e = and_left (is_complete_duty S l m) _ e
 owed_due S Complete CompensateAct l m asks e = absurd cc
 owed_due S Compensate CompleteAct l m asks e = absurd cc

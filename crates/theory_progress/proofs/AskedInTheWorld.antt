@@ -64,7 +64,7 @@ called_home s node l m call due = sym due.due.own ∙ ap (λ (d : Id). d.home) d
 one_home : (s t : State) (one other : ℕ) (l : Id) (m : ℕ) (act next : Act) → IsAskedFor s one l m act → IsAskedFor t other l m next → other ≡ one
 one_home s t one other l m act next was is = called_home t other l m is.call is.due ∙ sym (called_home s one l m was.call was.due)
 
-asked_at : (s : State) (node : ℕ) (l : Id) (m : ℕ) (act : Act) → IsWorld s → IsNode s node → IsAskedFor s node l m act → IsAsked (set_of s node) l m act
+pub asked_at : (s : State) (node : ℕ) (l : Id) (m : ℕ) (act : Act) → IsWorld s → IsNode s node → IsAskedFor s node l m act → IsAsked (set_of s node) l m act
 asked_at s node l m act world is asked =
     subst (λ (a : Act). IsAsked (set_of s node) l m a) asked.acts
     (subst (λ (n : ℕ). IsAsked (set_of s node) l n asked.call.act) asked.due.member

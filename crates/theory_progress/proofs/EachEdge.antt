@@ -21,22 +21,22 @@ use Rattle.theory_progress.proofs.NeverRefused.{node_is}
 
 -- Commands at node 1, one after another
 
-abbrev after_all : State → List Command → State
+abbrev pub after_all : State → List Command → State
 after_all s [] = s
 after_all s (c ∷ cs) = after_all (after_command s 1 c) cs
 
-abbrev replied : State → List Command → List EventReply
+abbrev pub replied : State → List Command → List EventReply
 replied s [] = []
 replied s (c ∷ cs) = Answered (reply_at s 1 c) ∷ replied (after_command s 1 c) cs
 
 acts : (s : State) (c : Command) → IsNode s 1 → Steps s (Act 1 c) (Answered (reply_at s 1 c)) (after_command s 1 c)
 acts s c is = subst (λ (b : Bool). IfNode b s (Acts s 1 c (Answered (reply_at s 1 c)) (after_command s 1 c)) (Answered (reply_at s 1 c)) (after_command s 1 c)) (sym (node_is s 1 is)) (refl, refl)
 
-record HaveRun (s : State) (cs : List Command) : Type 0 where
-  there : IsNode (after_all s cs) 1
-  runs : Runs s (map (λ c. Act 1 c) cs) (replied s cs) (after_all s cs)
+pub record HaveRun (s : State) (cs : List Command) : Type 0 where
+  pub there : IsNode (after_all s cs) 1
+  pub runs : Runs s (map (λ c. Act 1 c) cs) (replied s cs) (after_all s cs)
 
-have_run : (s : State) (cs : List Command) → IsWorld s → IsNode s 1 → HaveRun s cs
+pub have_run : (s : State) (cs : List Command) → IsWorld s → IsNode s 1 → HaveRun s cs
 have_run s [] world is = record { there = is; runs = refl }
 have_run s (c ∷ cs) world is =
     let step = acts s c is in
@@ -67,10 +67,10 @@ happens cs c l a b before after =
 
 -- A root with one participant, and an LRA that is nested in a root
 
-abbrev lra : ℕ → Id
+abbrev pub lra : ℕ → Id
 lra n = record { home = 1; num = n }
 
-abbrev links : Links
+abbrev pub links : Links
 links = record { complete = Some []; compensate = Some []; status = None; forget = None; after = None }
 
 abbrev root : List Command

@@ -19,6 +19,7 @@ mod Examples
 pub mod FramesEnterNothing  -- frames and restarts leave the history as it was
 mod Hearing
 mod LastInOrder
+pub mod LaterSets  -- what a closed set says of participants, a later one says too
 mod ListedActs
 mod LongestSaga
 mod NeverRefused
@@ -27,5 +28,7 @@ mod OpenUnder
 mod ReportsEnd
 mod RoundsExist
 mod SagasAlone
+mod SagasBackwards
+mod SagasInTheWorld
 mod UnderWay
 mod UntilPurged

@@ -4,3 +4,4 @@ pub mod Calls
 pub mod Diagram
 pub mod Ends
 pub mod Rounds
+pub mod SagaOrder

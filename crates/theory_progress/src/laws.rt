@@ -3,6 +3,7 @@
 pub mod asked;
 pub mod bound;
 pub mod diagram;
+pub mod order;
 
 ghost use Rattle.std.specs.Prelude.{◌≡◌, ◌⊎◌, ◌≤◌, ◌<◌, ◌+◌, ◌↔◌, ℕ, List, Some, false, is_some, length, replicate, true};
 ghost use Rattle.std.specs.List.{list_any};

@@ -34,7 +34,7 @@ use Rattle.wire_callbacks.specs.declared.duty.Duty.{Duty}
 use Rattle.wire_callbacks.specs.CallDuties.{IsDuty, is_owed}
 use Rattle.theory_progress.specs.Calls.{asks_to_act, is_answered}
 use Rattle.theory_trail.specs.LastingCalls.{Answered, IsEnded, IsKept, IsOvertaken, IsStillDue, Overtaken, Purged, StillDue, answers, ends_call}
-use Rattle.theory_trail.proofs.LaterSets.{clash, in_under, inside, pending_before, settled, settled_later}
+use Rattle.theory_progress.proofs.LaterSets.{clash, in_under, inside, pending_before, settled, settled_later}
 
 -- What was heard of an act
 

@@ -27,7 +27,7 @@ use Rattle.wire_callbacks.specs.declared.duty.Duty.{Duty}
 use Rattle.wire_callbacks.specs.CallDuties.{IsDuty, is_act_wanted, is_owed, link_for, link_given}
 use Rattle.theory_progress.specs.Calls.{is_answered}
 use Rattle.theory_trail.specs.LastingCalls.{Answered, IsKept, Purged}
-use Rattle.theory_trail.proofs.LaterSets.{IsMember, inside, member_kept}
+use Rattle.theory_progress.proofs.LaterSets.{IsMember, inside, member_kept}
 use Rattle.theory_trail.proofs.StillDue.{compensate_kept, complete_kept, forgets_still, some_of, still}
 
 some_wanted : (x : Option Verdict) (act : Act) → is_act_wanted x act ≡ true → (y : Verdict) × (x ≡ Some y)

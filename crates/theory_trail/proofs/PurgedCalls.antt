@@ -45,7 +45,7 @@ use Rattle.theory_trail.specs.LastingCalls.{Answered, IsDone, IsKept, IsOvertake
 use Rattle.theory_trail.proofs.AtOtherNodes.{node_still}
 use Rattle.theory_trail.proofs.Crashing.{crashes_run}
 use Rattle.theory_trail.proofs.KeptCalls.{listed, world_keeps}
-use Rattle.theory_trail.proofs.LaterSets.{clash, pending_before}
+use Rattle.theory_progress.proofs.LaterSets.{clash, pending_before}
 use Rattle.theory_trail.proofs.PurgedTrees.{IsPurging, ended_above, grown, has_cancelled, same_set, set_inside, step_purges}
 use Rattle.theory_trail.proofs.StillDue.{cancels}
 

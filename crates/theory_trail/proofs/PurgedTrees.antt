@@ -45,7 +45,7 @@ use Rattle.theory_trail.specs.LastingCalls.{HasToCompensate, IsToCompensate}
 use Rattle.theory_trail.proofs.AtOtherNodes.{node_still}
 use Rattle.theory_trail.proofs.EndedCalls.{IsPurgedBy, purge_since}
 use Rattle.theory_trail.proofs.KeptCalls.{still_open}
-use Rattle.theory_trail.proofs.LaterSets.{clash, in_under, member_kept, pending_before, settled_later}
+use Rattle.theory_progress.proofs.LaterSets.{clash, in_under, member_kept, pending_before, settled_later}
 use Rattle.theory_trail.proofs.LostCommands.{command_more, new_fact}
 use Rattle.theory_trail.proofs.StillDue.{cancels}
 

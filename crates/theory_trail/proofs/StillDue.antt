@@ -36,7 +36,7 @@ use Rattle.wire_callbacks.specs.declared.duty.Duty.{Duty}
 use Rattle.wire_callbacks.specs.CallDuties.{asks_status, is_busy, is_owed, link_for, link_given, shown_for}
 use Rattle.theory_progress.specs.Calls.{asks_to_act, is_answered}
 use Rattle.theory_trail.specs.LastingCalls.{Answered, IsKept, Overtaken, StillDue}
-use Rattle.theory_trail.proofs.LaterSets.{IsMember, clash, in_under, inside, links_joined, links_kept, member_kept, path_same, pending_earlier, settled, settled_later, stayed_before, under_in}
+use Rattle.theory_progress.proofs.LaterSets.{IsMember, clash, in_under, inside, links_joined, links_kept, member_kept, path_same, pending_earlier, settled, settled_later, stayed_before, under_in}
 
 pub some_of : {X : Type 0} (o : Option X) → is_some o ≡ true → (x : X) × (o ≡ Some x)
 some_of None e = absurd cc
