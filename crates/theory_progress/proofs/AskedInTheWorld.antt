@@ -1,9 +1,9 @@
 -- what a participant is asked for at nodes of the world
-use Rattle.std.proofs.Common.{◌≡◌, ◌↔◌, ℕ, List, sym, ap, subst, ◌∙◌, true, false, arith, length, Some}
+use Rattle.std.proofs.Common.{◌≡◌, ◌↔◌, ℕ, List, refl, sym, ap, subst, ◌∙◌, is_none, true, false, arith, length, Some}
 use Rattle.state_ids.specs.Ids.{Id}
 use Rattle.state_ids.specs.declared.outcome.Act.{Act}
 use Rattle.state_ids.specs.declared.outcome.Act.TheVariants.{Compensate, Complete}
-use Rattle.state_ids.specs.declared.outcome.Verdict.TheVariants.{Close}
+use Rattle.state_ids.specs.declared.outcome.Verdict.TheVariants.{Cancel, Close}
 use Rattle.state_facts.specs.declared.fact.Fact.{Fact}
 use Rattle.state_facts.specs.Duties.{is_after_duty, is_forget_duty, is_pending}
 use Rattle.state_facts.specs.Lists.{In}
@@ -13,6 +13,7 @@ use Rattle.theory_history.specs.Histories.{IsClosed, facts}
 use Rattle.theory_history.specs.Views.{View}
 use Rattle.theory_history.proofs.Basics.{held_begun}
 use Rattle.theory_history.proofs.ClosedSets.{closed_settled}
+use Rattle.theory_history.proofs.Decisions.{parent_both, wanted_begun}
 use Rattle.theory_history.proofs.RanksRise.{IsGrown}
 use Rattle.theory_history.proofs.SplitVerdicts.{parted, root_whole}
 use Rattle.wire_callbacks.specs.declared.answer.Kind.{Kind}
@@ -30,6 +31,7 @@ use Rattle.theory_progress.specs.Asked.{IsAskedFor, IsCallTo, IsCalledTo}
 use Rattle.theory_progress.proofs.ActsAsked.{IsAsked}
 use Rattle.theory_progress.proofs.AnswersLeft.{owed_after, owed_forget}
 use Rattle.theory_progress.proofs.AskedOneWay.{after_end, asked_by, asked_cancel, asked_close, end_later, ended_unasked, forget_over, never_again, never_back, over_later}
+use Rattle.theory_progress.proofs.CancelsAtHome.{cancel_at_home}
 use Rattle.theory_progress.proofs.EndsInTheWorld.{earlier_set}
 use Rattle.theory_progress.proofs.Hearing.{still_node}
 
@@ -57,24 +59,17 @@ as_before P s t node world kept is holds = subst P (sym (earlier_set s t node wo
 
 -- Calls
 
--- a participant is called by its home
-called_home : (s : State) (node : ℕ) (l : Id) (m : ℕ) (call : Duty) → IsCallTo s node l m call → node ≡ l.home
-called_home s node l m call due = sym due.due.own ∙ ap (λ (d : Id). d.home) due.lra
-
-one_home : (s t : State) (one other : ℕ) (l : Id) (m : ℕ) (act next : Act) → IsAskedFor s one l m act → IsAskedFor t other l m next → other ≡ one
-one_home s t one other l m act next was is = called_home t other l m is.call is.due ∙ sym (called_home s one l m was.call was.due)
-
 pub asked_at : (s : State) (node : ℕ) (l : Id) (m : ℕ) (act : Act) → IsWorld s → IsNode s node → IsAskedFor s node l m act → IsAsked (set_of s node) l m act
 asked_at s node l m act world is asked =
     subst (λ (a : Act). IsAsked (set_of s node) l m a) asked.acts
     (subst (λ (n : ℕ). IsAsked (set_of s node) l n asked.call.act) asked.due.member
     (subst (λ (d : Id). IsAsked (set_of s node) d asked.call.member asked.call.act) asked.due.lra
-    (asked_by (set_of s node) node asked.call (settled_at s node world is) asked.due.due asked.asks)))
+    (asked_by (set_of s node) l.home asked.call (settled_at s node world is) asked.due.due asked.asks)))
 
 -- no participant of an LRA that has ended is asked to act
 unasked_at : (s : State) (node : ℕ) (l : Id) (m : ℕ) (act : Act) → IsWorld s → IsNode s node → is_ended (set_of s node) l ≡ true → IsAskedFor s node l m act → ⊥
 unasked_at s node l m act world is ended asked =
-    ended_unasked (set_of s node) node asked.call (settled_at s node world is) asked.due.due asked.asks
+    ended_unasked (set_of s node) l.home asked.call (settled_at s node world is) asked.due.due asked.asks
     (subst (λ (d : Id). is_ended (set_of s node) d ≡ true) (sym asked.due.lra) ended)
 
 -- the LRA of a call is begun
@@ -90,13 +85,22 @@ owed_at s node l m kind called =
 
 -- A participant is asked in one direction only
 
-pub way_compensated : (s t : State) (events : List Event) (replies : List EventReply) (one other : ℕ) (l : Id) (m : ℕ) → IsWorld s → Runs s events replies t → IsNode s one → IsNode t other → IsAskedFor s one l m Compensate → IsAskedFor t other l m Complete → ⊥
-way_compensated s t events replies one other l m world runs is at was asked =
+pub way_compensated : (s t : State) (events : List Event) (replies : List EventReply) (node : ℕ) (l : Id) (m : ℕ) → IsWorld s → Runs s events replies t → IsNode s node → IsAskedFor s node l m Compensate → IsAskedFor t node l m Complete → ⊥
+way_compensated s t events replies node l m world runs is was asked =
     let kept = run_keeps s t events replies world runs in
-    let here : IsAskedFor t one l m Complete = subst (λ (n : ℕ). IsAskedFor t n l m Complete) (one_home s t one other l m Compensate Complete was asked) asked in
-    never_back t.history (front_of s one) (front_of t one) (grown_at s t one world kept is) l m
-    (as_before (λ (S : List Fact). IsAsked S l m Compensate) s t one world kept is (asked_at s one l m Compensate world is was))
-    (asked_at t one l m Complete kept.world (still_node s t one kept is) here)
+    never_back t.history (front_of s node) (front_of t node) (grown_at s t node world kept is) l m
+    (as_before (λ (S : List Fact). IsAsked S l m Compensate) s t node world kept is (asked_at s node l m Compensate world is was))
+    (asked_at t node l m Complete kept.world (still_node s t node kept is) asked)
+
+-- the home knows each cancel that any node knew
+pub way_home : (s t : State) (events : List Event) (replies : List EventReply) (node : ℕ) (l : Id) (m : ℕ) → IsWorld s → Runs s events replies t → IsNode s node → IsNode t l.home → IsAskedFor s node l m Compensate → IsAskedFor t l.home l m Complete → ⊥
+way_home s t events replies node l m world runs is home was asked =
+    let kept = run_keeps s t events replies world runs in
+    let wanted = as_before (λ (S : List Fact). want S l ≡ Some Cancel) s t node world kept is (asked_cancel (set_of s node) l m (asked_at s node l m Compensate world is was)) in
+    let here = cancel_at_home t.history kept.world.lawful (front_of s node) (front_of t l.home) (kept.grown.closed (front_of s node) (closed_at s node world is)) (closed_at t l.home kept.world home) l
+    (kept.world.current l.home home.some home.there).own wanted in
+    let wrong : Some Cancel ≡ Some Close = sym here ∙ asked_close (set_of t l.home) l m (asked_at t l.home l m Complete kept.world home asked) in
+    cc
 
 pub way_ended : (s t : State) (events : List Event) (replies : List EventReply) (node : ℕ) (l : Id) (m : ℕ) (act : Act) → IsWorld s → Runs s events replies t → IsNode s node → is_pending (heard (set_of s node) l m act) ≡ false → IsAskedFor t node l m act → ⊥
 way_ended s t events replies node l m act world runs is ends asked =
@@ -127,26 +131,58 @@ way_hears s t events replies node l m act world runs is called asked =
 
 -- Both acts
 
-wanted_before : (s t : State) (node : ℕ) (l : Id) (m : ℕ) → IsWorld s → IsKeptBy s t → IsNode s node → IsAskedFor s node l m Complete → want (facts t.history (front_of s node)) l ≡ Some Close
-wanted_before s t node l m world kept is was =
-    as_before (λ (S : List Fact). want S l ≡ Some Close) s t node world kept is (asked_close (set_of s node) l m (asked_at s node l m Complete world is was))
+module _ (s t : State) (events : List Event) (replies : List EventReply) (one other : ℕ) (l : Id) (m : ℕ) (world : IsWorld s) (runs : Runs s events replies t) (is : IsNode s one) (at : IsNode t other) where
+  kept : IsKeptBy s t
+  kept = run_keeps s t events replies world runs
 
-pub both_above : (s t : State) (events : List Event) (replies : List EventReply) (one other : ℕ) (l : Id) (m : ℕ) → IsWorld s → Runs s events replies t → IsNode s one → IsNode t other → IsAskedFor s one l m Complete → IsAskedFor t other l m Compensate → IsAncestorCancelled t l
-both_above s t events replies one other l m world runs is at was asked =
-    let kept = run_keeps s t events replies world runs in
-    record {
-      front = front_of t other;
-      closed = closed_at t other kept.world at;
-      cancelled = parted t.history kept.world.lawful (front_of s one) (front_of t other) (kept.grown.closed (front_of s one) (closed_at s one world is)) (closed_at t other kept.world at) l
-          (wanted_before s t one l m world kept is was) (asked_cancel (set_of t other) l m (asked_at t other l m Compensate kept.world at asked));
-    }
+  early : IsClosed t.history (front_of s one)
+  early = kept.grown.closed (front_of s one) (closed_at s one world is)
 
-pub both_root : (s t : State) (events : List Event) (replies : List EventReply) (one other : ℕ) (l : Id) (m : ℕ) → IsWorld s → Runs s events replies t → IsNode s one → IsNode t other → is_root (set_of s one) l ≡ true → IsAskedFor s one l m Complete → IsAskedFor t other l m Compensate → ⊥
-both_root s t events replies one other l m world runs is at root was asked =
-    let kept = run_keeps s t events replies world runs in
-    root_whole t.history kept.world.lawful (front_of s one) (front_of t other) (kept.grown.closed (front_of s one) (closed_at s one world is)) (closed_at t other kept.world at) l
-    (as_before (λ (S : List Fact). is_root S l ≡ true) s t one world kept is root)
-    (wanted_before s t one l m world kept is was) (asked_cancel (set_of t other) l m (asked_at t other l m Compensate kept.world at asked))
+  late : IsClosed t.history (front_of t other)
+  late = closed_at t other kept.world at
+
+  was : (act : Act) → IsAskedFor s one l m act → IsAsked (facts t.history (front_of s one)) l m act
+  was act asked = as_before (λ (S : List Fact). IsAsked S l m act) s t one world kept is (asked_at s one l m act world is asked)
+
+  shows : (act : Act) → IsAskedFor t other l m act → IsAsked (set_of t other) l m act
+  shows act asked = asked_at t other l m act kept.world at asked
+
+  pub both_above : (act next : Act) → IsAskedFor s one l m act → IsAskedFor t other l m next → (act ≡ next → ⊥) → IsAncestorCancelled t l
+  both_above Complete Complete first then apart = absurd (apart refl)
+  both_above Compensate Compensate first then apart = absurd (apart refl)
+  both_above Complete Compensate first then apart =
+      record {
+        front = front_of t other;
+        closed = late;
+        cancelled = parted t.history kept.world.lawful (front_of s one) (front_of t other) early late l (asked_close _ l m (was Complete first)) (asked_cancel _ l m (shows Compensate then));
+      }
+  both_above Compensate Complete first then apart =
+      record {
+        front = front_of s one;
+        closed = early;
+        cancelled = parted t.history kept.world.lawful (front_of t other) (front_of s one) late early l (asked_close _ l m (shows Complete then)) (asked_cancel _ l m (was Compensate first));
+      }
+
+  pub both_root : (act next : Act) → is_root (set_of s one) l ≡ true → IsAskedFor s one l m act → IsAskedFor t other l m next → (act ≡ next → ⊥) → ⊥
+  both_root Complete Complete root first then apart = apart refl
+  both_root Compensate Compensate root first then apart = apart refl
+  both_root Complete Compensate root first then apart =
+      root_whole t.history kept.world.lawful (front_of s one) (front_of t other) early late l
+      (as_before (λ (S : List Fact). is_root S l ≡ true) s t one world kept is root)
+      (asked_close _ l m (was Complete first)) (asked_cancel _ l m (shows Compensate then))
+  both_root Compensate Complete root first then apart =
+      root_whole t.history kept.world.lawful (front_of t other) (front_of s one) late early l still
+      (asked_close _ l m (shows Complete then)) (asked_cancel _ l m (was Compensate first))
+    where
+      rooted : is_root (facts t.history (front_of s one)) l ≡ true
+      rooted = as_before (λ (S : List Fact). is_root S l ≡ true) s t one world kept is root
+
+      still : is_root (set_of t other) l ≡ true
+      still =
+          ap is_none (sym (parent_both t.history kept.world.lawful (front_of s one) (front_of t other) early late l
+          (wanted_begun t.history kept.world.lawful (front_of s one) early l Cancel (asked_cancel _ l m (was Compensate first)))
+          (wanted_begun t.history kept.world.lawful (front_of t other) late l Close (asked_close _ l m (shows Complete then)))))
+          ∙ rooted
 
 -- The list
 

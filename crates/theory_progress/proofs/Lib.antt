@@ -8,6 +8,7 @@ mod AskedOneWay
 mod CallOfOne
 mod CallRoundsEnd
 mod CallRoundsFall
+mod CancelsAtHome
 mod DiagramInTheWorld
 mod DiagramPaths
 mod DueInASaga

@@ -18,14 +18,19 @@ ghost use Rattle.script_world.specs.Headline.{IsAncestorCancelled, IsNode};
 ghost use Rattle.script_world.specs.Worlds.{IsViewOf, IsWorld, Runs, State, front_of, set_of};
 ghost use Rattle.theory_progress.specs.Asked.{IsAskedFor, IsCalledTo};
 
-/// What a participant is asked only moves forward, whatever happens. Once it was due to be asked to
-/// compensate, no node is to ask it to complete. Once a node heard the end of an act, that node
-/// doesn't ask for the act again. Once the participant was due to be called to forget, or to hear
-/// of the end, it is asked for no act any more.
+/// What a participant is asked only moves forward, whatever happens. Only the home of an LRA makes
+/// calls, but this holds of the calls that are due by the set of any node, as if it were the home.
+/// Once the participant was due to be asked to compensate, it isn't to be asked to complete, by the
+/// same node's set (`compensated`), nor ever by its home (`home`). Once a node heard the end of an
+/// act, that act isn't to be asked for again. Once the participant was due to be called to forget,
+/// or to hear of the end, it is to be asked for no act any more.
 pub fn what_is_asked_goes_one_way()
     ensures compensated { (s t : State) (events : List Event) (replies : List EventReply)
-        (one other : ℕ) (l : Id) (m : ℕ) → IsWorld s → Runs s events replies t → IsNode s one →
-        IsNode t other → IsAskedFor s one l m Compensate → IsAskedFor t other l m Complete → ⊥ }
+        (node : ℕ) (l : Id) (m : ℕ) → IsWorld s → Runs s events replies t → IsNode s node →
+        IsAskedFor s node l m Compensate → IsAskedFor t node l m Complete → ⊥ }
+    ensures home { (s t : State) (events : List Event) (replies : List EventReply)
+        (node : ℕ) (l : Id) (m : ℕ) → IsWorld s → Runs s events replies t → IsNode s node →
+        IsNode t l.home → IsAskedFor s node l m Compensate → IsAskedFor t l.home l m Complete → ⊥ }
     ensures ended { (s t : State) (events : List Event) (replies : List EventReply)
         (node : ℕ) (l : Id) (m : ℕ) (act : TheAct) → IsWorld s → Runs s events replies t →
         IsNode s node → is_pending (heard (set_of s node) l m act) ≡ false →
@@ -38,18 +43,20 @@ pub fn what_is_asked_goes_one_way()
         IsNode s node → IsCalledTo s node l m After → IsAskedFor t node l m act → ⊥ }
 {}
 
-/// A participant is asked for both acts only if an LRA above its own was cancelled, and then to
-/// complete first, by the clause `compensated`. So a participant of a root is asked for only one of
-/// the two.
+/// A participant is asked for both acts only if an LRA above its own was cancelled. This holds of
+/// what is due by the sets of any two nodes at any two moments. By the clauses `compensated` and
+/// `home` it is asked to complete first. So a participant of a root is asked for only one of the
+/// two.
 pub fn both_acts_are_asked_only_so()
     ensures above { (s t : State) (events : List Event) (replies : List EventReply)
-        (one other : ℕ) (l : Id) (m : ℕ) → IsWorld s → Runs s events replies t →
-        IsNode s one → IsNode t other → IsAskedFor s one l m Complete →
-        IsAskedFor t other l m Compensate → IsAncestorCancelled t l }
+        (one other : ℕ) (l : Id) (m : ℕ) (act next : TheAct) → IsWorld s →
+        Runs s events replies t → IsNode s one → IsNode t other → IsAskedFor s one l m act →
+        IsAskedFor t other l m next → (act ≡ next → ⊥) → IsAncestorCancelled t l }
     ensures root { (s t : State) (events : List Event) (replies : List EventReply)
-        (one other : ℕ) (l : Id) (m : ℕ) → IsWorld s → Runs s events replies t →
-        IsNode s one → IsNode t other → is_root (set_of s one) l ≡ true →
-        IsAskedFor s one l m Complete → IsAskedFor t other l m Compensate → ⊥ }
+        (one other : ℕ) (l : Id) (m : ℕ) (act next : TheAct) → IsWorld s →
+        Runs s events replies t → IsNode s one → IsNode t other →
+        is_root (set_of s one) l ≡ true → IsAskedFor s one l m act →
+        IsAskedFor t other l m next → (act ≡ next → ⊥) → ⊥ }
 {}
 
 /// A call is due at a node exactly when it is on the list that the node makes from its view. It is

@@ -17,9 +17,9 @@ ghost use Rattle.theory_progress.specs.SagaOrder.{HasCompensated, IsBehind};
 
 /// A saga is compensated backwards. Once a participant is due to compensate, each participant
 /// behind it has ended, then and for good: it is Compensated or FailedToCompensate, until its tree
-/// is purged (`ended`, `shown`). So the home never asks it for anything again (`asked`). In one
-/// LRA, whoever joined later comes behind (`later`). There is such a participant in a nested LRA
-/// (`met`).
+/// is purged (`ended`, `shown`). So by the same node's set it isn't to be asked for anything any
+/// more (`asked`). In one LRA, whoever joined later comes behind (`later`). There is such a
+/// participant in a nested LRA (`met`).
 pub fn a_saga_goes_backwards()
     ensures ended { (h : History) (v w : List ℕ) (l d : Id) (m n : ℕ) →
         IsLawful h → IsClosed h v → IsClosed h w → IsBelow v w →
