@@ -31,11 +31,11 @@ use Rattle.theory_progress.proofs.Hearing.{still_node}
 -- What is shown of an LRA
 
 -- the set shows this status of the LRA
-record IsShown (S : List Fact) (l : Id) (a : LraStatus) : Type 0 where
-  held : is_held S l ≡ true
-  now : shows_now S l ≡ a
+pub record IsShown (S : List Fact) (l : Id) (a : LraStatus) : Type 0 where
+  pub held : is_held S l ≡ true
+  pub now : shows_now S l ≡ a
 
-shown_by : (S : List Fact) (v : List ℕ) (l : Id) (a : LraStatus) → shown_of S v l ≡ Ok a → (is_covered v l ≡ true) × IsShown S l a
+pub shown_by : (S : List Fact) (v : List ℕ) (l : Id) (a : LraStatus) → shown_of S v l ≡ Ok a → (is_covered v l ≡ true) × IsShown S l a
 shown_by S v l a e = by (first (unknown v l ∷ gone_by (by_facts S) l ∷ [])) refl e
   where
     same : (x y : LraStatus) → ◌≡◌ {A = Result LraStatus Refusal} (Ok x) (Ok y) → x ≡ y
@@ -127,7 +127,7 @@ pub branch_alone : (s t : State) (events : List Event) (replies : List EventRepl
 branch_alone = branch_by
 
 -- the rank of what one node shows only rises
-rises : (s t : State) (events : List Event) (replies : List EventReply) (node : ℕ) (l : Id) (a b : LraStatus) → IsWorld s → Runs s events replies t → IsNode s node → shown_at s node l ≡ Ok a → shown_at t node l ≡ Ok b → rank a ≤ rank b
+pub rises : (s t : State) (events : List Event) (replies : List EventReply) (node : ℕ) (l : Id) (a b : LraStatus) → IsWorld s → Runs s events replies t → IsNode s node → shown_at s node l ≡ Ok a → shown_at t node l ≡ Ok b → rank a ≤ rank b
 rises s t events replies node l a b world runs is before after =
     let kept = run_keeps s t events replies world runs in
     let first = shown_by (set_of s node) (front_of s node) l a before in

@@ -44,7 +44,7 @@ have_run s (c ∷ cs) world is =
     let rest = have_run (after_command s 1 c) cs kept.world (still_node s (after_command s 1 c) 1 kept is) in
     record { there = rest.there; runs = (after_command s 1 c, step, rest.runs) }
 
-happens : (cs : List Command) (c : Command) (l : Id) (a b : LraStatus) → shown_at (after_all (start 1) cs) 1 l ≡ Ok a → shown_at (after_command (after_all (start 1) cs) 1 c) 1 l ≡ Ok b → IsCrossed a b
+pub happens : (cs : List Command) (c : Command) (l : Id) (a b : LraStatus) → shown_at (after_all (start 1) cs) 1 l ≡ Ok a → shown_at (after_command (after_all (start 1) cs) 1 c) 1 l ≡ Ok b → IsCrossed a b
 happens cs c l a b before after =
     let s = after_all (start 1) cs in
     let run = have_run (start 1) cs (start_is 1 (omega arith)) (record { some = omega arith; there = omega arith }) in

@@ -13,6 +13,7 @@ mod DiagramInTheWorld
 mod DiagramPaths
 mod DueInASaga
 mod EachEdge
+mod EdgesByEvent
 mod EndsAccepted
 mod EndsInTheWorld
 mod Entering
@@ -24,6 +25,7 @@ pub mod LaterSets  -- what a closed set says of participants, a later one says t
 mod ListedActs
 mod LongestSaga
 mod NeverRefused
+mod OneMoreFact
 mod OpenInAHistory
 mod OpenUnder
 mod ReportsEnd

@@ -1,9 +1,14 @@
 -- The diagram of an LRA: the standard's statuses and edges, and the edges that this project adds.
-use Rattle.std.specs.Prelude.{◌≡◌, ◌&&◌, ◌||◌, ℕ, Bool, true, false, List, [], ◌∷◌, Ok}
+use Rattle.std.specs.Prelude.{◌≡◌, ◌⊎◌, ◌&&◌, ◌||◌, ℕ, Bool, true, false, List, [], ◌∷◌, Ok}
 use Rattle.state_ids.specs.Ids.{Id}
 use Rattle.state_ids.specs.declared.status.LraStatus.{LraStatus}
 use Rattle.state_ids.specs.declared.status.LraStatus.TheVariants.{Active, Cancelled, Cancelling, Closed, Closing, FailedToCancel, FailedToClose}
+use Rattle.state_ids.specs.declared.outcome.Verdict.{Verdict}
+use Rattle.state_ids.specs.declared.outcome.Verdict.TheVariants.{Cancel, Close}
+use Rattle.state_facts.specs.declared.command.Command.{Command}
+use Rattle.state_facts.specs.declared.command.Command.TheVariants.{Decide, Report}
 use Rattle.script_world.specs.declared.event.Event.{Event}
+use Rattle.script_world.specs.declared.event.Event.TheVariants.{Act, Deliver, Tick}
 use Rattle.script_world.specs.declared.event.EventReply.{EventReply}
 use Rattle.script_world.specs.Headline.{IsNode, shown_at}
 use Rattle.script_world.specs.Worlds.{Runs, State, Steps, start}
@@ -47,6 +52,37 @@ LeadsBy edge a (c ∷ cs) b = (edge a c ≡ true) × LeadsBy edge c cs b
 -- a path of such edges, of any length, including none
 abbrev pub IsPath : (LraStatus → LraStatus → Bool) → LraStatus → LraStatus → Type 0
 IsPath edge a b = (steps : List LraStatus) × LeadsBy edge a steps b
+
+-- the edges that an end crosses: to the end of the branch, or the late failure
+abbrev pub is_heard_edge : LraStatus → LraStatus → Bool
+is_heard_edge Closing Closed = true
+is_heard_edge Closing FailedToClose = true
+is_heard_edge Cancelling Cancelled = true
+is_heard_edge Cancelling FailedToCancel = true
+is_heard_edge a b = is_late_failure a b
+
+-- where a decision leads first
+abbrev pub decided_to : Verdict → LraStatus
+decided_to Close = Closing
+decided_to Cancel = Cancelling
+
+-- a decision crosses none, or an edge of its own, and then one more at most, to an end
+abbrev pub ByDecision : Verdict → LraStatus → LraStatus → Type 0
+ByDecision verdict a b =
+    (a ≡ b) ⊎ ((is_edge a (decided_to verdict) ≡ true) × ((decided_to verdict ≡ b) ⊎ (is_heard_edge (decided_to verdict) b ≡ true)))
+
+-- a report crosses one edge at most, and the commands that neither report nor decide cross none
+abbrev pub ByCommand : Command → LraStatus → LraStatus → Type 0
+ByCommand (Report l m act outcome) a b = (a ≡ b) ⊎ (is_heard_edge a b ≡ true)
+ByCommand (Decide l verdict) a b = ByDecision verdict a b
+ByCommand _ a b = a ≡ b
+
+-- the edges that one event may cross: only a frame that is taken may bring several decisions
+abbrev pub ByEvent : Event → LraStatus → LraStatus → Type 0
+ByEvent (Act node c) a b = ByCommand c a b
+ByEvent (Tick node now) a b = ByDecision Cancel a b
+ByEvent (Deliver number node kept) a b = IsPath is_edge a b
+ByEvent _ a b = a ≡ b
 
 -- the branch of closing
 abbrev pub is_to_close : LraStatus → Bool
