@@ -21,7 +21,8 @@ ghost use Rattle.script_world.specs.declared.event.Event.{Event};
 ghost use Rattle.script_world.specs.declared.event.EventReply.{EventReply};
 ghost use Rattle.script_world.specs.Headline.{IsNode};
 ghost use Rattle.script_world.specs.Worlds.{IsWorld, Runs, State, set_of};
-ghost use Rattle.theory_progress.specs.Calls.{IsActUnder};
+ghost use Rattle.theory_progress.specs.Calls.{IsActUnder, asks_to_act};
+ghost use Rattle.theory_progress.specs.SagaOrder.{HasCompensated, IsBehind};
 ghost use Rattle.state_journal.specs.Ruled.{AreTyped};
 ghost use Rattle.state_book.specs.Books.{AreRuled, BookState, IsBook, IsStartedBehind};
 ghost use Rattle.state_book.specs.declared.calls.Call.{Call as TheCall};
@@ -39,6 +40,7 @@ use crate::laws::what_a_node_holds_keeps_the_rules;
 use sqlite::Alter;
 use state_book::laws::a_start_finds_the_records_before_or_after;
 use theory_history::laws::rising::what_is_at_its_end_stays_there;
+use theory_progress::laws::order::a_saga_goes_backwards;
 use theory_progress::laws::{a_tree_goes_on_until_it_is_purged, nothing_is_stuck};
 
 /// Servers that are killed behave like servers that are not. Each node of the world is a server,
@@ -137,6 +139,26 @@ pub fn no_crash_loses_a_compensation()
 {
     nothing_is_stuck();
     what_is_at_its_end_stays_there();
+}
+
+/// No crash calls a saga out of order. Suppose that a home's list has a participant that is to
+/// compensate. Then, whatever servers do and however often they are killed, each participant behind
+/// it has ended at the home, until its tree is purged (`ended`), and no later list of the home asks
+/// it for anything (`listed`).
+pub fn no_crash_calls_out_of_order()
+    ensures ended { (s t : State) (views ends : ℕ → View)
+        (happened : List Happening) (node : ℕ) (call : Duty) (d : Id) (n : ℕ) →
+        AreTrailsWithCrashes s views happened t ends → IsNode s node →
+        In call (duties_of (views node) node) → IsToCompensate call →
+        IsBehind (set_of s node) call.id call.member d n → HasCompensated (set_of t node) d n }
+    ensures listed { (s t : State) (views ends : ℕ → View)
+        (happened : List Happening) (node : ℕ) (call next : Duty) →
+        AreTrailsWithCrashes s views happened t ends → IsNode s node →
+        In call (duties_of (views node) node) → IsToCompensate call →
+        IsBehind (set_of s node) call.id call.member next.id next.member →
+        In next (duties_of (ends node) node) → asks_to_act next.kind ≡ true → ⊥ }
+{
+    a_saga_goes_backwards();
 }
 
 /// No call is lost. A call that was due is still due, or it was answered, or its LRA was purged, or
