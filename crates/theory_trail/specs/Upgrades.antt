@@ -34,6 +34,10 @@ pub record IsStopped {S : Type 0} (g : Ghosts S) (me nodes : ℕ) (before : Tree
   pub clean : HasCleanDisk (state g opening.left)
   pub may : (state g opening.left).may_leave opening.rows
 
+-- an opening that was stopped before it did anything
+abbrev pub stopped_at_once : {S : Type 0} → Ghosts S → Held S → StoppedOpening S
+stopped_at_once g held = record { taken = held; left = held; rows = (state g held).now.trees }
+
 -- each opening took the rows that the one before it left
 abbrev pub AreStopped : {S : Type 0} → Ghosts S → (me nodes : ℕ) → (before : Trees) → List (StoppedOpening S) → (after : Trees) → Type 0
 AreStopped g me nodes before [] after = after ≡ before

@@ -1,4 +1,5 @@
 use Rattle.theory_trail.proofs.KilledOpenings.{found_same, found_still}
+use Rattle.theory_trail.proofs.StopsAtOnce.{stopped_openings}
 use Rattle.theory_trail.proofs.laws.upgrades.an_upgrade_may_be_killed.Goals as goal
 
 pub returns : goal.returns
@@ -7,4 +8,5 @@ returns g c =
     record {
       stands = λ me nodes before after openings view. found_still rows.view rows.version rows.rewritten g.S.Store g.met.S.Store.settled me nodes before after openings view;
       found = λ me nodes before after openings view next. found_same rows.view rows.version rows.rewritten g.S.Store g.met.S.Store.settled me nodes before after openings view next;
+      met = stopped_openings g.S.Store g.met.S.Store.stays;
     }
