@@ -40,9 +40,10 @@ use Rattle.script_world.specs.declared.event.EventReply.{EventReply}
 use Rattle.script_world.specs.declared.event.EventReply.TheVariants.{Answered}
 use Rattle.script_world.specs.Headline.{IsNode, shown_at}
 use Rattle.script_world.specs.Worlds.{Expires, IfNode, IsWorld, Runs, Sends, State, Steps, after_command, front_of, if_taken, is_node, reply_at, set_of, with_command}
-use Rattle.script_world.proofs.Moving.{IsKeptBy, node_is, run_keeps}
-use Rattle.theory_progress.specs.Diagram.{ByCommand, ByDecision, ByEvent, IsCrossed, decided_to, is_edge, is_heard_edge}
+use Rattle.script_world.proofs.Moving.{IsKeptBy, node_is, run_keeps, step_keeps}
+use Rattle.theory_progress.specs.Diagram.{ByCommand, ByDecision, ByEvent, IsCrossed, decided_to, is_edge, is_heard_edge, node_of}
 use Rattle.theory_progress.proofs.AskedInTheWorld.{as_before, grown_at, settled_at}
+use Rattle.theory_progress.proofs.AtOtherNodes.{step_leaves}
 use Rattle.theory_progress.proofs.DiagramInTheWorld.{IsShown, path_any, rises, shown_by}
 use Rattle.theory_progress.proofs.EachEdge.{happens, lra}
 use Rattle.theory_progress.proofs.EndsInTheWorld.{earlier_set}
@@ -350,6 +351,15 @@ module _ (s t : State) (node : ℕ) (l : Id) (a b : LraStatus) (world : IsWorld 
   few_edges (Restart n) reply step = at_node n (a ≡ b) _ reply (λ e. e) (λ at h. unchanged h.1) step
   few_edges (Deliver number n kept) reply step =
       path_any s t (Deliver number n kept ∷ []) (reply ∷ []) node l a b world (t, step, refl) is before after
+
+-- What happens at another node
+
+pub shown_elsewhere : (s t : State) (event : Event) (reply : EventReply) (node : ℕ) (l : Id) → IsWorld s → Steps s event reply t → IsNode s node → (node_of event ≡ node → ⊥) → shown_at t node l ≡ shown_at s node l
+shown_elsewhere s t event reply node l world step is other =
+    let kept = step_keeps s t event reply world step in
+    let front = step_leaves s t node event reply is.some other step in
+    ap (λ (v : List ℕ). shown_of (facts t.history v) v l) front
+    ∙ ap (λ (S : List Fact). shown_of S (front_of s node) l) (earlier_set s t node world kept is)
 
 -- A decision crosses two edges if no participant is open
 

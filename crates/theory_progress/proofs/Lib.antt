@@ -5,6 +5,7 @@ mod AnswersLeft
 mod AnswersPurge
 mod AskedInTheWorld
 mod AskedOneWay
+pub mod AtOtherNodes  -- what happens at another node leaves a node's front
 mod CallOfOne
 mod CallRoundsEnd
 mod CallRoundsFall

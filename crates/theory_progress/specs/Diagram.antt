@@ -8,7 +8,7 @@ use Rattle.state_ids.specs.declared.outcome.Verdict.TheVariants.{Cancel, Close}
 use Rattle.state_facts.specs.declared.command.Command.{Command}
 use Rattle.state_facts.specs.declared.command.Command.TheVariants.{Decide, Report}
 use Rattle.script_world.specs.declared.event.Event.{Event}
-use Rattle.script_world.specs.declared.event.Event.TheVariants.{Act, Deliver, Tick}
+use Rattle.script_world.specs.declared.event.Event.TheVariants.{Act, Deliver, Restart, Send, Tick}
 use Rattle.script_world.specs.declared.event.EventReply.{EventReply}
 use Rattle.script_world.specs.Headline.{IsNode, shown_at}
 use Rattle.script_world.specs.Worlds.{Runs, State, Steps, start}
@@ -83,6 +83,14 @@ ByEvent (Act node c) a b = ByCommand c a b
 ByEvent (Tick node now) a b = ByDecision Cancel a b
 ByEvent (Deliver number node kept) a b = IsPath is_edge a b
 ByEvent _ a b = a ≡ b
+
+-- the node at which an event happens
+abbrev pub node_of : Event → ℕ
+node_of (Act node c) = node
+node_of (Send node base version) = node
+node_of (Deliver frame node kept) = node
+node_of (Restart node) = node
+node_of (Tick node now) = node
 
 -- the branch of closing
 abbrev pub is_to_close : LraStatus → Bool

@@ -40,7 +40,8 @@ use Rattle.state_book.specs.declared.calls.Reply.{Reply as BookReply}
 use Rattle.state_book.specs.declared.calls.Reply.TheVariants.{Command as Entered, Took, Gave}
 use Rattle.state_book.specs.Next.{IsNext, IsTakeReply, Takes, expire_reply, expired, pull_reply, shows_so, status_reply, sweep_reply, view_expired, view_swept}
 use Rattle.state_book.specs.Trees.{tree_shown_on}
-use Rattle.theory_trail.specs.NodeTrails.{Arrival, IsServed, IsTold, IsToldAs, Says, WasSent, event_by, is_accepted, node_of}
+use Rattle.theory_progress.specs.Diagram.{node_of}
+use Rattle.theory_trail.specs.NodeTrails.{Arrival, IsServed, IsTold, IsToldAs, Says, WasSent, event_by, is_accepted}
 use Rattle.theory_trail.proofs.KeptFrames.{last_numbered}
 use Rattle.theory_trail.proofs.OwnCommands.{Holds, at_node, command_holds, current_of, nodes_in, reply_is, settled_of, there_in, unless_accepted}
 

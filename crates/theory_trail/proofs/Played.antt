@@ -19,7 +19,8 @@ use Rattle.state_book.specs.declared.calls.Reply.{Reply as BookReply}
 use Rattle.state_book.specs.declared.calls.Reply.TheVariants.{Command as Entered, Took, Gave, Shown, ShownMember, Listed, Held, Surveyed, Due, Quiet, Expired, Refused}
 use Rattle.state_book.specs.Next.{IsFoundBehind, IsNext}
 use Rattle.state_book.specs.Trails.{LeadsTo, entry}
-use Rattle.theory_trail.specs.NodeTrails.{AreReplies, Arrival, Elsewhere, Follows, Happen, Here, IsPlayed, IsReplied, IsRun, IsServed, IsTold, Item, Leaves, Says, WasSent, event_of, events_of, node_of, trail_of, with_event}
+use Rattle.theory_progress.specs.Diagram.{node_of}
+use Rattle.theory_trail.specs.NodeTrails.{AreReplies, Arrival, Elsewhere, Follows, Happen, Here, IsPlayed, IsReplied, IsRun, IsServed, IsTold, Item, Leaves, Says, WasSent, event_of, events_of, trail_of, with_event}
 use Rattle.theory_trail.proofs.AtOtherNodes.{node_still, served_still}
 use Rattle.theory_trail.proofs.Entries.{Means, Nothing, Something, entry_means}
 use Rattle.theory_trail.proofs.KeptFrames.{run_told}

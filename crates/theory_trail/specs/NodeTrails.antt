@@ -11,7 +11,7 @@ use Rattle.wire_frames.specs.Encoding.{encoding_as}
 use Rattle.wire_frames.specs.declared.version.Version.{Version}
 use Rattle.wire_frames.specs.declared.version.Version.TheVariants.{Two}
 use Rattle.script_world.specs.declared.event.Event.{Event}
-use Rattle.script_world.specs.declared.event.Event.TheVariants.{Act, Deliver, Restart, Send, Tick}
+use Rattle.script_world.specs.declared.event.Event.TheVariants.{Act, Deliver, Send, Tick}
 use Rattle.script_world.specs.declared.event.EventReply.{EventReply}
 use Rattle.script_world.specs.declared.event.EventReply.TheVariants.{Answered, Sent, Expired as DidExpire, Took as DidTake}
 use Rattle.script_world.specs.Headline.{Converges, IsNode}
@@ -23,6 +23,7 @@ use Rattle.state_book.specs.declared.calls.Reply.{Reply as BookReply}
 use Rattle.state_book.specs.declared.calls.Reply.TheVariants.{Command as Entered, Took, Gave, Expired}
 use Rattle.state_book.specs.Next.{IsNext}
 use Rattle.state_book.specs.Trails.{LeadsTo, entry}
+use Rattle.theory_progress.specs.Diagram.{node_of}
 
 -- a frame that arrives at a node: its number among those that were sent, and the version in which
 -- it was sent
@@ -42,14 +43,6 @@ abbrev pub trail_of : List Item → List Entry
 trail_of [] = []
 trail_of (Elsewhere event reply ∷ items) = trail_of items
 trail_of (Here entry frame ∷ items) = entry ∷ trail_of items
-
--- the node at which an event happens
-abbrev pub node_of : Event → ℕ
-node_of (Act node c) = node
-node_of (Send node base version) = node
-node_of (Deliver frame node kept) = node
-node_of (Restart node) = node
-node_of (Tick node now) = node
 
 -- Entries as events
 

@@ -8,7 +8,7 @@ ghost use Rattle.script_world.specs.declared.event.Event.{Event};
 ghost use Rattle.script_world.specs.declared.event.EventReply.{EventReply};
 ghost use Rattle.script_world.specs.Headline.{IsAncestorCancelled, IsNode, shown_at};
 ghost use Rattle.script_world.specs.Worlds.{IsWorld, Runs, State, Steps, set_of};
-ghost use Rattle.theory_progress.specs.Diagram.{ByEvent, IsCrossed, IsPath, are_parted, is_edge, is_own_edge};
+ghost use Rattle.theory_progress.specs.Diagram.{ByEvent, IsCrossed, IsPath, are_parted, is_edge, is_own_edge, node_of};
 
 /// What a node shows of an LRA follows the diagram: whatever happens, edges lead from what it shows
 /// to what it shows later. If no LRA above it was cancelled, and so for every root, these are only
@@ -45,11 +45,15 @@ pub fn a_root_keeps_to_one_branch()
 /// One event crosses few edges. A report crosses one at most: to an end, or a late failure. A
 /// decision or a deadline crosses none, or one of its own, and then one more at most, to an end: so
 /// it does if no participant is open (`two`). Other commands, frames that are sent and restarts
-/// cross none. So only a frame that is taken may bring several decisions at once.
+/// cross none. So only a frame that is taken may bring several decisions at once. What happens at
+/// another node changes nothing that the node shows (`elsewhere`).
 pub fn one_event_crosses_few_edges()
     ensures few { (s t : State) (event : Event) (reply : EventReply)
         (node : ℕ) (l : Id) (a b : TheStatus) → IsWorld s → Steps s event reply t → IsNode s node →
         shown_at s node l ≡ Ok a → shown_at t node l ≡ Ok b → ByEvent event a b }
+    ensures elsewhere { (s t : State) (event : Event) (reply : EventReply) (node : ℕ) (l : Id) →
+        IsWorld s → Steps s event reply t → IsNode s node → (node_of event ≡ node → ⊥) →
+        shown_at t node l ≡ shown_at s node l }
     ensures two { IsCrossed Active Closed × IsCrossed Active Cancelled × IsCrossed Closed Cancelled }
 {}
 
