@@ -34,9 +34,13 @@ pub record IsStopped {S : Type 0} (g : Ghosts S) (me nodes : ℕ) (before : Tree
   pub clean : HasCleanDisk (state g opening.left)
   pub may : (state g opening.left).may_leave opening.rows
 
--- an opening that was stopped before it did anything
+-- an opening that was stopped when it was done: its connection shows the rows that are left
+abbrev pub stopped_when_done : {S : Type 0} → Ghosts S → (taken left : Held S) → StoppedOpening S
+stopped_when_done g taken left = record { taken = taken; left = left; rows = (state g left).now.trees }
+
+-- one that was stopped before it did anything
 abbrev pub stopped_at_once : {S : Type 0} → Ghosts S → Held S → StoppedOpening S
-stopped_at_once g held = record { taken = held; left = held; rows = (state g held).now.trees }
+stopped_at_once g held = stopped_when_done g held held
 
 -- each opening took the rows that the one before it left
 abbrev pub AreStopped : {S : Type 0} → Ghosts S → (me nodes : ℕ) → (before : Trees) → List (StoppedOpening S) → (after : Trees) → Type 0

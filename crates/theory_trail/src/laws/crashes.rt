@@ -1,7 +1,7 @@
 //! Laws of servers that are killed: calls are lost, and starts find what was stored.
 ghost use Rattle.std.specs.Prelude.{◌≡◌, ◌≤◌, ◌⊎◌, ℕ, List, [], ◌∷◌, ◌++◌, IsTrue, false, length, true};
 ghost use Rattle.sqlite.specs.Held.{Held, state};
-ghost use Rattle.sqlite.specs.State.{HasCleanDisk};
+ghost use Rattle.sqlite.specs.State.{HasCleanDisk, Survives};
 ghost use Rattle.sqlite.specs.Tree.{Trees};
 ghost use Rattle.state_ids.specs.declared.TheConstants.{MAX_NODES};
 ghost use Rattle.state_ids.specs.Fronts.{IsBelow};
@@ -25,8 +25,8 @@ ghost use Rattle.script_world.specs.Worlds.{IsWorld, Runs, State, set_of};
 ghost use Rattle.theory_progress.specs.Calls.{IsActUnder, asks_to_act};
 ghost use Rattle.theory_progress.specs.SagaOrder.{HasCompensated, IsBehind};
 ghost use Rattle.state_journal.specs.Keeping.{IsOwn};
-ghost use Rattle.state_journal.specs.Ruled.{AreTyped};
-ghost use Rattle.state_book.specs.Books.{AreRuled, BookState, IsBook, IsStartedBehind};
+ghost use Rattle.state_journal.specs.Ruled.{AreTyped, KeepsRules};
+ghost use Rattle.state_book.specs.Books.{AreRuled, BookState, IsBook, IsStartedBehind, MayCommit};
 ghost use Rattle.state_book.specs.declared.calls.Call.{Call as TheCall};
 ghost use Rattle.state_book.specs.declared.calls.Call.TheVariants.{Command as Enter};
 ghost use Rattle.state_book.specs.declared.calls.Entry.{Entry};
@@ -83,8 +83,9 @@ pub fn servers_with_crashes_are_one_world()
 /// book, a start then finds rows that a stop may leave. They stand for what the next start of a
 /// lost call finds. Two premises remain: that a frame of the call was sent, and that the views keep
 /// the rules of rows. They keep them if the node's records, and those after the call, have the
-/// types of records. Each open book over a clean disk is such a case, if the call is stopped before
-/// it stores anything (`met`).
+/// types of records. Each open book over a clean disk is such a case: the call may be stopped
+/// before it stores anything (`before`), or after it is done (`after`), as the clauses `crash`,
+/// `rows` and `first` of `state_book::Book::call` leave it.
 pub fn a_stop_in_a_call_is_a_lost_call<S: Alter>()
     ensures lost { (s : State) (old : BookState S) (asked : TheCall)
         (now : ℕ) (frame : Arrival) (left : Held S) (db : Trees) (found : View) →
@@ -99,12 +100,22 @@ pub fn a_stop_in_a_call_is_a_lost_call<S: Alter>()
         ((reply : BookReply) (b : View) → IsNext old.me old.records asked now reply b →
         WasSent s frame asked reply × (length b.front ≤ MAX_NODES) × AreTyped b) →
         AreRuled old asked now }
-    ensures met { (old : BookState S) (asked : TheCall) (now : ℕ) →
+    ensures before { (old : BookState S) (asked : TheCall) (now : ℕ) →
         IsBook S.Store old → AreRuled old asked now → IsOwn (state S.Store old.journal.opened) →
         IsTrue (state S.Store old.journal.connection).is_open →
         HasCleanDisk (state S.Store old.journal.connection) →
         IsStartedBehind S.Store old asked now old.journal.connection
         (state S.Store old.journal.connection).now.trees old.records }
+    ensures after { (old new : BookState S) (asked : TheCall) (now : ℕ) →
+        Survives (state S.Store old.journal.connection) (state S.Store new.journal.connection)
+        (MayCommit S.Store old asked now) →
+        IsBook S.Store new → new.me ≡ old.me → new.journal.opened ≡ old.journal.opened →
+        KeepsRules new.records → IsOwn (state S.Store old.journal.opened) →
+        IsTrue (state S.Store old.journal.connection).is_open →
+        IsTrue (state S.Store new.journal.connection).is_open →
+        HasCleanDisk (state S.Store new.journal.connection) →
+        IsStartedBehind S.Store old asked now new.journal.connection
+        (state S.Store new.journal.connection).now.trees new.records }
 {
     a_start_finds_the_records_before_or_after::<S>();
     what_a_node_holds_keeps_the_rules();

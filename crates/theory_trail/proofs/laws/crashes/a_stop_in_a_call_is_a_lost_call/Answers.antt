@@ -1,5 +1,5 @@
 use Rattle.theory_trail.proofs.StoppedBooks.{stop_lost, typed_ruled}
-use Rattle.theory_trail.proofs.StopsAtOnce.{started_behind}
+use Rattle.theory_trail.proofs.StopsInACall.{started_after, started_before}
 use Rattle.theory_trail.proofs.laws.crashes.a_stop_in_a_call_is_a_lost_call.Goals as goal
 
 pub returns : goal.returns
@@ -9,5 +9,6 @@ returns g c =
     record {
       lost = λ s old asked now frame left db found served is ruled started sent. stop_lost s old asked now frame found served (behind old asked now left db found is ruled started) sent;
       ruled = typed_ruled rules.held rules.next;
-      met = started_behind g.S.Store g.met.S.Store.stays;
+      before = started_before g.S.Store g.met.S.Store.stays;
+      after = started_after g.S.Store g.met.S.Store.stays;
     }
