@@ -31,16 +31,19 @@ ALIKE = ["a_frame_brings_what_its_sender_had", "one_round_makes_all_alike", "one
 IN_ROUNDS = ["a_decided_tree_ends_in_so_many_rounds", "a_decided_tree_ends_with_its_longest_saga",
              "a_saga_ends_in_so_many_rounds"]
 ASKED = ["what_is_asked_goes_one_way", "both_acts_are_asked_only_so", "a_call_is_listed_where_it_is_due"]
-DIAGRAM = ["an_lra_goes_by_the_diagram", "a_root_keeps_to_one_branch", "each_edge_happens"]
+DIAGRAM = ["an_lra_goes_by_the_diagram", "a_root_keeps_to_one_branch", "one_event_crosses_few_edges",
+           "each_edge_happens"]
 # The laws of servers.
 TRAIL = "crates/theory_trail/src/laws"
 KILLED = ["servers_with_crashes_are_one_world", "a_turn_that_can_come_is_a_trail", "a_stop_in_a_call_is_a_lost_call"]
-KEPT = ["no_crash_loses_a_compensation", "no_call_is_lost", "only_an_answer_a_cancel_or_a_purge_ends_a_call",
-        "a_purge_loses_no_call"]
+KEPT = ["no_crash_loses_a_compensation", "no_crash_calls_out_of_order", "no_call_is_lost",
+        "only_an_answer_a_cancel_or_a_purge_ends_a_call", "a_purge_loses_no_call"]
 LAWS = [("and that nothing is stuck", PROGRESS, ["nothing_is_stuck"]),
         ("and how it goes on to its end", PROGRESS, TO_ITS_END),
         ("and in how many rounds of calls", "crates/theory_progress/src/laws/bound.rt", IN_ROUNDS),
         ("and what a participant is asked", "crates/theory_progress/src/laws/asked.rt", ASKED),
+        ("and that a saga is compensated backwards", "crates/theory_progress/src/laws/order.rt",
+         ["a_saga_goes_backwards"]),
         ("and that an LRA goes by a diagram", "crates/theory_progress/src/laws/diagram.rt", DIAGRAM),
         ("and that one round makes all alike", PROGRESS, ALIKE),
         ("and so all servers", f"{TRAIL}/rounds.rt", ["one_round_makes_all_servers_alike",
