@@ -34,5 +34,6 @@ mod RoundsExist
 mod SagasAlone
 mod SagasBackwards
 mod SagasInTheWorld
+pub mod TellingAtFirst  -- what two nodes hold at the start fits into frames
 mod UnderWay
 mod UntilPurged

@@ -31,7 +31,7 @@ ghost use Rattle.script_world.specs.declared.event.Event.TheVariants.{Deliver, S
 ghost use Rattle.script_world.specs.declared.event.EventReply.{EventReply};
 ghost use Rattle.script_world.specs.declared.event.EventReply.TheVariants.{Sent, Took};
 ghost use Rattle.script_world.specs.Headline.{Agree, IsNode};
-ghost use Rattle.script_world.specs.Worlds.{IsEncoded, IsViewOf, IsWorld, Runs, SentFrame, State, Steps, frame_at, front_of, nodes_of, set_of};
+ghost use Rattle.script_world.specs.Worlds.{IsEncoded, IsViewOf, IsWorld, Runs, SentFrame, State, Steps, frame_at, front_of, nodes_of, set_of, start};
 ghost use Rattle.theory_progress.specs.Calls.{HearsAnEnd, IsActUnder, IsCallUnder, IsUnderWay, answers_left, asks_to_act, open_under, saga_of};
 ghost use Rattle.theory_progress.specs.Ends.{CanEnd, CanPurge, GetAnswered, GetsAnswered, GoOn, GoesOn, last_state};
 ghost use Rattle.theory_progress.specs.Rounds.{CanTell, HasRound, HearsOf, IsRound, all_counted, may_enter};
@@ -216,9 +216,11 @@ pub fn one_round_brings_what_was_entered()
 {}
 
 /// A round can be made from each state in which what the nodes hold fits into frames: each node
-/// sends one frame since nothing, and takes the frames of all others.
+/// sends one frame since nothing, and takes the frames of all others. The start of two nodes is
+/// such a state (`met`).
 pub fn a_round_can_be_made()
-    ensures { (s : State) → IsWorld s → CanTell s → HasRound s }
+    ensures made { (s : State) → IsWorld s → CanTell s → HasRound s }
+    ensures met { IsWorld (start 2) × CanTell (start 2) }
 {}
 
 /// Without commands and ticks nothing is entered: frames and restarts leave the history as it was.

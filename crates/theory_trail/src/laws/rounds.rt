@@ -5,9 +5,9 @@ ghost use Rattle.state_ids.specs.Fronts.{count};
 ghost use Rattle.state_ids.specs.Ids.{Id, last_number};
 ghost use Rattle.state_ids.specs.declared.TheConstants.{MAX_NODES};
 ghost use Rattle.theory_history.specs.Histories.{entries_of};
-ghost use Rattle.theory_history.specs.Views.{View};
+ghost use Rattle.theory_history.specs.Views.{View, empty_view};
 ghost use Rattle.script_world.specs.Headline.{IsNode};
-ghost use Rattle.script_world.specs.Worlds.{IsWorld, State, front_of, nodes_of, set_of};
+ghost use Rattle.script_world.specs.Worlds.{IsWorld, State, front_of, nodes_of, set_of, start};
 ghost use Rattle.theory_progress.specs.CallRounds.{IsCallRound};
 ghost use Rattle.theory_progress.specs.Calls.{IsUnderWay, open_under, saga_of};
 ghost use Rattle.theory_progress.specs.Rounds.{all_counted, may_enter};
@@ -39,10 +39,13 @@ pub fn one_round_makes_all_servers_alike()
 {}
 
 /// A round of servers can be made from each state in which what the nodes hold fits into frames:
-/// each node is asked for a frame since nothing, and takes the frames of all others.
+/// each node is asked for a frame since nothing, and takes the frames of all others. The start of
+/// two servers is such a state (`met`).
 pub fn a_round_of_servers_can_be_made()
-    ensures { (s : State) (views : ℕ → View) → IsWorld s → AreServed s views →
+    ensures made { (s : State) (views : ℕ → View) → IsWorld s → AreServed s views →
         nodes_of s ≤ MAX_NODES → FitIntoFrames s views → HasServerRound s views }
+    ensures met { AreServed (start 2) (λ node. empty_view 2)
+        × FitIntoFrames (start 2) (λ node. empty_view 2) }
 {}
 
 /// A round of calls can be made from each state in which an LRA is under way: answers alone lead to
