@@ -43,10 +43,10 @@ pub fn a_root_keeps_to_one_branch()
 {}
 
 /// One event crosses few edges. A report crosses one at most: to an end, or a late failure. A
-/// decision or a deadline crosses none, or one of its own, and then one more at most, to an end: so
-/// it does if no participant is open (`two`). Other commands, frames that are sent and restarts
-/// cross none. So only a frame that is taken may bring several decisions at once. What happens at
-/// another node changes nothing that the node shows (`elsewhere`).
+/// decision or a deadline crosses none, or one of its own and then one more at most, to an end. It
+/// crosses both if no participant is open (`two`). Other commands, frames that are sent and
+/// restarts cross none. So only a frame that is taken may bring several decisions at once. What
+/// happens at another node changes nothing that the node shows (`elsewhere`).
 pub fn one_event_crosses_few_edges()
     ensures few { (s t : State) (event : Event) (reply : EventReply)
         (node : ℕ) (l : Id) (a b : TheStatus) → IsWorld s → Steps s event reply t → IsNode s node →
